@@ -1,5 +1,6 @@
 // The refusals of the calls, one enum for every layer that answers them.
 ghost use mathlib.Core.Path.{_≡_};
+ghost use Rattle.faults.specs.Answers.{codeOf};
 ghost use Rattle.faults.specs.Numbers.{numberOf};
 
 pub mod call_fault;
@@ -23,5 +24,15 @@ pub fn number(fault: CallFault) -> u8
         CallFault::ShortScratch => 15,
         CallFault::NoRoom => 16,
         CallFault::NotWeakest => 17,
+    }
+}
+
+// 0 for a grant, and a refusal's number.
+pub fn code(answer: Result<(), CallFault>) -> u8
+    ensures { λ r. ⌜ r ≡ codeOf answer ⌝ }
+{
+    match answer {
+        Ok(_) => 0,
+        Err(fault) => number(fault),
     }
 }

@@ -1,0 +1,11 @@
+// Credit networks: what they mean, the questions they answer, their changes and openings, and a degree cap over any of them.
+pub mod capped;
+pub mod changing;
+pub mod network;
+pub mod opening;
+
+pub use capped::Capped;
+pub use capped::CappedMemory;
+pub use changing::Changing;
+pub use network::Network;
+pub use opening::Opening;
