@@ -5,7 +5,7 @@ use mathlib.Core.Logic.{inl, inr}
 use Prim.Native.Nat.{ℕ, zero, suc, _+_, _<_, _≤_, min}
 use native.Mathlib.Omega.{arith}
 use lib.ListN.{length, getD, take, drop, set}
-use Rattle.std.proofs.shelf.Lists.{take-more, drop-more, set-at, append-assoc, length-append, length-take-le, take-all, drop-all, take-append-le}
+use Rattle.std.proofs.shelf.Lists.{take-more, drop-more, set-at, append-assoc, length-append, length-take, length-take-le, length-drop, take-all, drop-all, take-append-le}
 use Rattle.std.proofs.shelf.Tests.{cases-lt}
 use Rattle.grades.specs.Places.{onto}
 
@@ -45,3 +45,6 @@ onto-full xs ys x h =
     let m : length (xs ++ x ∷ []) ≡ length xs + 1 = length-append xs (x ∷ []) in
     ap (λ t. take (length ys) xs ++ t) (drop-all (length xs) ys h ∙ sym (drop-all (length (xs ++ x ∷ [])) ys (omega arith)))
     ∙ ap (λ t. t ++ drop (length (xs ++ x ∷ [])) ys) (sym (take-append-le (length ys) xs (x ∷ []) h))
+
+pub length-onto : {X : Type 0} (xs ys : List X) → length (onto xs ys) ≡ length ys
+length-onto xs ys = omega (arith, length-append (take (length ys) xs) (drop (length xs) ys), length-take (length ys) xs, length-drop (length xs) ys)

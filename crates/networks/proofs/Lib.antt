@@ -1,2 +1,3 @@
-pub mod Rising
+pub mod Fills
 pub mod Refusals
+pub mod Rising

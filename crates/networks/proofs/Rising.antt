@@ -47,3 +47,50 @@ kept-push p n h = kept-more p n ∙ ap (λ b. kept-by p (counting 0 n) ++ cond b
 
 pub kept-same : (p : ℕ → Bool) (n : ℕ) → p n ≡ false → kept-by p (counting 0 (n + 1)) ≡ kept-by p (counting 0 n)
 kept-same p n h = kept-more p n ∙ ap (λ b. kept-by p (counting 0 n) ++ cond b (n ∷ []) []) h ∙ append-nil (kept-by p (counting 0 n))
+
+pub counting-append : (a n m : ℕ) → counting a (n + m) ≡ counting a n ++ counting (a + n) m
+counting-append a zero m = let e : 0 + m ≡ m = omega arith in let f : a ≡ a + 0 = omega arith in ap (counting a) e ∙ ap (λ t. counting t m) f
+counting-append a (suc n) m =
+    let e : suc n + m ≡ suc (n + m) = omega arith in
+    let f : (a + 1) + n ≡ a + suc n = omega arith in
+    ap (counting a) e ∙ ap (λ t. a ∷ t) (counting-append (a + 1) n m ∙ ap (λ t. counting (a + 1) n ++ counting t m) f)
+
+pub kept-append : (p : ℕ → Bool) (n m : ℕ) → kept-by p (counting 0 (n + m)) ≡ kept-by p (counting 0 n) ++ kept-by p (counting n m)
+kept-append p n m =
+    let e : 0 + n ≡ n = omega arith in
+    ap (kept-by p) (counting-append 0 n m ∙ ap (λ a. counting 0 n ++ counting a m) e) ∙ kept-by-append p (counting 0 n) (counting n m)
+
+pub kept-none : (p : ℕ → Bool) (a n : ℕ) → ((v : ℕ) → a ≤ v → p v ≡ false) → kept-by p (counting a n) ≡ []
+kept-none p a zero h = refl
+kept-none p a (suc n) h =
+    ap (λ b. cond b (a ∷ kept-by p (counting (a + 1) n)) (kept-by p (counting (a + 1) n))) (h a (omega arith)) ∙ kept-none p (a + 1) n (λ v l. h v (omega arith))
+
+-- numbers from n on that all fail add nothing
+pub kept-past : (p : ℕ → Bool) (n m : ℕ) → n ≤ m → ((v : ℕ) → n ≤ v → p v ≡ false) → kept-by p (counting 0 m) ≡ kept-by p (counting 0 n)
+kept-past p n m l h =
+    let e : m ≡ n + (m - n) = omega arith in
+    ap (λ t. kept-by p (counting 0 t)) e ∙ kept-append p n (m - n) ∙ ap (λ t. kept-by p (counting 0 n) ++ t) (kept-none p n (m - n) h) ∙ append-nil (kept-by p (counting 0 n))
+
+pub length-kept-push : (p : ℕ → Bool) (n : ℕ) → p n ≡ true → length (kept-by p (counting 0 (n + 1))) ≡ length (kept-by p (counting 0 n)) + 1
+length-kept-push p n h = ap length (kept-push p n h) ∙ length-append (kept-by p (counting 0 n)) (n ∷ [])
+
+nth-at : (xs : List ℕ) (v : ℕ) (ys : List ℕ) → nth (xs ++ v ∷ ys) (length xs) ≡ Some v
+nth-at [] v ys = refl
+nth-at (x ∷ xs) v ys = nth-at xs v ys
+
+-- a number that passes stands behind the smaller ones that do
+pub kept-at : (p : ℕ → Bool) (n v i : ℕ) → v < n → p v ≡ true → i ≡ length (kept-by p (counting 0 v)) → nth (kept-by p (counting 0 n)) i ≡ Some v
+kept-at p n v i h t e =
+    let rest = n - (v + 1) in
+    let split : n ≡ v + suc rest = omega arith in
+    let front = kept-by p (counting 0 v) in
+    let kept : kept-by p (counting 0 n) ≡ front ++ v ∷ kept-by p (counting (v + 1) rest) =
+        ap (λ m. kept-by p (counting 0 m)) split ∙ kept-append p v (suc rest)
+        ∙ ap (λ b. front ++ cond b (v ∷ kept-by p (counting (v + 1) rest)) (kept-by p (counting (v + 1) rest))) t in
+    ap (nth (kept-by p (counting 0 n))) e ∙ ap (λ l. nth l (length front)) kept ∙ nth-at front v (kept-by p (counting (v + 1) rest))
+
+pub kept-few : (p : ℕ → Bool) (a n : ℕ) → length (kept-by p (counting a n)) ≤ n
+kept-few p a zero = omega arith
+kept-few p a (suc n) = elim (p a) as (λ b. length (cond b (a ∷ kept-by p (counting (a + 1) n)) (kept-by p (counting (a + 1) n))) ≤ suc n) [
+    true ↦ (let r = kept-few p (a + 1) n in omega arith)
+  | false ↦ (let r = kept-few p (a + 1) n in omega arith) ]

@@ -1,3 +1,4 @@
 pub mod Net
 pub mod Changes
 pub mod Fixed
+pub mod Places

@@ -3,6 +3,7 @@ pub mod capped;
 pub mod changing;
 pub mod network;
 pub mod opening;
+pub mod places;
 
 pub use capped::Capped;
 pub use capped::CappedMemory;
