@@ -42,14 +42,15 @@ high-bit b x j h l =
 pub word-bit : (bs : List ℕ) (j : ℕ) → All Byte bs → bitOf (wordOf bs) j ≡ bitOf (getD bs (j / 8) 0) (j % 8)
 word-bit [] j h = no-bit j ∙ sym (no-bit (j % 8))
 word-bit (b ∷ bs) j h = elim (cases-lt j 8) [
-    inl l ↦ (
+  | inl l ↦ (
       let q : 0 ≡ j / 8 = omega arith in
       let r : j ≡ j % 8 = omega arith in
       low-bit b (wordOf bs) j (h .0) l ∙ ap₂ (λ i k. bitOf (getD (b ∷ bs) i 0) k) q r)
   | inr l ↦ (
       let q : suc ((j - 8) / 8) ≡ j / 8 = omega arith in
       let r : (j - 8) % 8 ≡ j % 8 = omega arith in
-      high-bit b (wordOf bs) j (h .0) l ∙ word-bit bs (j - 8) (h .1) ∙ ap₂ (λ i k. bitOf (getD (b ∷ bs) i 0) k) q r) ]
+      high-bit b (wordOf bs) j (h .0) l ∙ word-bit bs (j - 8) (h .1) ∙ ap₂ (λ i k. bitOf (getD (b ∷ bs) i 0) k) q r)
+]
 
 -- the next bit is the first of half the number
 half-bit : (w j : ℕ) → bitOf (w / 2) j ≡ bitOf w (j + 1)

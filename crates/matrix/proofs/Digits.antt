@@ -56,7 +56,7 @@ pub first-bit : (m k from w : ℕ) → 0 < w → w < 2 ^ m → m ≤ k → setBi
 first-bit zero k from w p h l = absurd (omega arith)
 first-bit (suc m) zero from w p h l = absurd (omega arith)
 first-bit (suc m) (suc k) from w p h l = elim (cases-eq (w % 2) 1) [
-    inl odd ↦ (
+  | inl odd ↦ (
       let here : from ≡ from + trailingZeros (suc k) w = omega (arith, trailing-odd k w odd) in
       set-odd m from w odd
       ∙ ap₂ (λ a t. a ∷ t) here (sym (set-double m from (w / 2)) ∙ ap (setBits (suc m) from) (sym (lowest-odd w odd))))
@@ -66,7 +66,8 @@ first-bit (suc m) (suc k) from w p h l = elim (cases-eq (w % 2) 1) [
       let here : from + 1 + trailingZeros k (w / 2) ≡ from + trailingZeros (suc k) w = omega (arith, trailing-even k w even) in
       set-even m from w even
       ∙ first-bit m k (from + 1) (w / 2) (omega arith) small (omega arith)
-      ∙ ap₂ (λ a t. a ∷ t) here (sym (set-double m from (bitAnd (w / 2) (w / 2 - 1))) ∙ ap (setBits (suc m) from) (sym (lowest-even w p even)))) ]
+      ∙ ap₂ (λ a t. a ∷ t) here (sym (set-double m from (bitAnd (w / 2) (w / 2 - 1))) ∙ ap (setBits (suc m) from) (sym (lowest-even w p even))))
+]
 
 pub no-bits : (m from : ℕ) → setBits m from 0 ≡ []
 unfolding setBits
@@ -77,5 +78,6 @@ pub bits-few : (m from w : ℕ) → length (setBits m from w) ≤ m
 unfolding setBits
 bits-few zero from w = omega arith
 bits-few (suc m) from w = elim (cases-eq (w % 2) 1) [
-    inl odd ↦ omega (arith, ap length (set-odd m from w odd), bits-few m (from + 1) (w / 2))
-  | inr ne ↦ (let even : w % 2 ≡ 0 = omega arith in omega (arith, ap length (set-even m from w even), bits-few m (from + 1) (w / 2))) ]
+  | inl odd ↦ omega (arith, ap length (set-odd m from w odd), bits-few m (from + 1) (w / 2))
+  | inr ne ↦ (let even : w % 2 ≡ 0 = omega arith in omega (arith, ap length (set-even m from w even), bits-few m (from + 1) (w / 2)))
+]

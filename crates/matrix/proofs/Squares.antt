@@ -30,13 +30,14 @@ bit-nobody n bits u v h = and-left (ltb u n) _ (le-ltb u n h)
 -- one bit of a power of two
 power-bit-other : (j k : ℕ) → (j ≡ k → ⊥) → (2 ^ j / 2 ^ k) % 2 ≡ 0
 power-bit-other j k ne = elim (cases-lt j k) [
-    inl h ↦ ap (λ t. t % 2) (div-eq-of-lt (pow-lt h))
+  | inl h ↦ ap (λ t. t % 2) (div-eq-of-lt (pow-lt h))
   | inr h ↦ (
       let m = (j - k) - 1 in
       let s : j ≡ suc m + k = omega arith in
       let e : 2 ^ j / 2 ^ k ≡ 2 ^ suc m = ap (λ t. 2 ^ t / 2 ^ k) s ∙ ap (λ t. t / 2 ^ k) (pow-add 2 (suc m) k) ∙ shl-shr (2 ^ suc m) k in
       let o : 2 ^ suc m ≡ 1 * 2 ^ suc m = omega arith in
-      ap (λ t. t % 2) (e ∙ o) ∙ shifted-even 1 m) ]
+      ap (λ t. t % 2) (e ∙ o) ∙ shifted-even 1 m)
+]
 
 power-bit-same : (k : ℕ) → (2 ^ k / 2 ^ k) % 2 ≡ 1
 power-bit-same k = ap (λ t. t % 2) (div-self (pow-pos k))
@@ -74,15 +75,16 @@ module _ (n : ℕ) (bits : List ℕ) (a b : ℕ) (la : a < n) (lb : b < n) (room
   flip-raw-there x y q ne =
       let old = getD bits (place n a b) 0 in
       elim (cases-eq (place n x y) (place n a b)) [
-        inl e ↦ (
-          let r = same-row n a b x y group q e in
-          let s = same-byte n a b x y group q e in
-          let d : b % 8 ≡ y % 8 → ⊥ = λ m. ne (r, omega arith) in
-          ap (λ t. bitOf (getD (flipped n bits a b) t 0) (y % 8)) e
-          ∙ ap (λ t. bitOf t (y % 8)) (getD-set-same bits (place n a b) (bitXor old (2 ^ (b % 8))) 0 within)
-          ∙ xor-there old (b % 8) (y % 8) d
-          ∙ sym (ap (λ t. bitOf (getD bits t 0) (y % 8)) e))
-      | inr d ↦ ap (λ t. bitOf t (y % 8)) (getD-set-other bits (place n a b) (place n x y) (bitXor old (2 ^ (b % 8))) 0 d) ]
+        | inl e ↦ (
+            let r = same-row n a b x y group q e in
+            let s = same-byte n a b x y group q e in
+            let d : b % 8 ≡ y % 8 → ⊥ = λ m. ne (r, omega arith) in
+            ap (λ t. bitOf (getD (flipped n bits a b) t 0) (y % 8)) e
+            ∙ ap (λ t. bitOf t (y % 8)) (getD-set-same bits (place n a b) (bitXor old (2 ^ (b % 8))) 0 within)
+            ∙ xor-there old (b % 8) (y % 8) d
+            ∙ sym (ap (λ t. bitOf (getD bits t 0) (y % 8)) e))
+        | inr d ↦ ap (λ t. bitOf t (y % 8)) (getD-set-other bits (place n a b) (place n x y) (bitXor old (2 ^ (b % 8))) 0 d)
+      ]
 
   pub flip-here : bitAt n (flipped n bits a b) a b ≡ not (bitAt n bits a b)
   flip-here =
@@ -93,17 +95,19 @@ module _ (n : ℕ) (bits : List ℕ) (a b : ℕ) (la : a < n) (lb : b < n) (room
 
   pub flip-there : (x y : ℕ) → ((x ≡ a) × (y ≡ b) → ⊥) → bitAt n (flipped n bits a b) x y ≡ bitAt n bits x y
   flip-there x y ne = elim (cases-lt y n) [
-      inl q ↦ ap (λ t. ltb x n && (ltb y n && t)) (flip-raw-there x y (omega arith) ne)
-    | inr q ↦ bit-past n (flipped n bits a b) x y q ∙ sym (bit-past n bits x y q) ]
+    | inl q ↦ ap (λ t. ltb x n && (ltb y n && t)) (flip-raw-there x y (omega arith) ne)
+    | inr q ↦ bit-past n (flipped n bits a b) x y q ∙ sym (bit-past n bits x y q)
+  ]
 
   pub flip-spare : (x y : ℕ) → spareAt n (flipped n bits a b) x y ≡ spareAt n bits x y
   flip-spare x y = elim (cases-bool (spares x y)) [
-      inr no′ ↦ and-left (spares x y) _ no′ ∙ sym (and-left (spares x y) _ no′)
+    | inr no′ ↦ and-left (spares x y) _ no′ ∙ sym (and-left (spares x y) _ no′)
     | inl yes′ ↦ (
         let past = and-parts (leb n y) _ (and-parts (ltb x n) _ yes′ .1) in
         let lo = leb-true n y (past .0) in
         let hi = ltb-true y (8 * stride n) (past .1) in
-        ap (λ t. spares x y && t) (flip-raw-there x y (omega arith) (λ e. omega (arith, e .1)))) ]
+        ap (λ t. spares x y && t) (flip-raw-there x y (omega arith) (λ e. omega (arith, e .1))))
+  ]
     where
       spares : ℕ → ℕ → Bool
       spares x y = ltb x n && (leb n y && ltb y (8 * stride n))

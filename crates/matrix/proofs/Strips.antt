@@ -39,7 +39,7 @@ sum-word : (bs : List ℕ) → sumOf bs ≡ wordOf (eightOf bs)
 sum-word bs = omega arith
 
 module _ (n : ℕ) (bits : List ℕ) (u i : ℕ) (person : u < n) (clear : (x y : ℕ) → spareAt n bits x y ≡ false) (small : (k : ℕ) → getD bits k 0 < 256) (bs : List ℕ)
-  (read : (k : ℕ) → k < 8 → getD bs k 0 ≡ cond (ltb (u * stride n + 8 * i + k) (u * stride n + stride n)) (getD bits (u * stride n + 8 * i + k) 0) 0) where
+    (read : (k : ℕ) → k < 8 → getD bs k 0 ≡ cond (ltb (u * stride n + 8 * i + k) (u * stride n + stride n)) (getD bits (u * stride n + 8 * i + k) 0) 0) where
   byte : (k : ℕ) → k < 8 → getD bs k 0 < 256
   byte k h = omega (arith, read k h, cond-both (ltb (u * stride n + 8 * i + k) (u * stride n + stride n)) (getD bits (u * stride n + 8 * i + k) 0) 0 (λ x. x < 256) (λ _. small (u * stride n + 8 * i + k)) (λ _. omega arith))
 
@@ -55,17 +55,19 @@ module _ (n : ℕ) (bits : List ℕ) (u i : ℕ) (person : u < n) (clear : (x y 
       let q : at ≡ place n u v = omega arith in
       let r : j % 8 ≡ v % 8 = omega arith in
       let raw : bitOf (sumOf bs) j ≡ bitOf (cond (ltb at (u * stride n + stride n)) (getD bits at 0) 0) (j % 8) =
-          ap (λ t. bitOf t j) (sum-word bs) ∙ word-bit (eightOf bs) j bytes ∙ ap (λ t. bitOf t (j % 8)) (eight-at bs (j / 8) k ∙ read (j / 8) k) in
+      ap (λ t. bitOf t j) (sum-word bs) ∙ word-bit (eightOf bs) j bytes ∙ ap (λ t. bitOf t (j % 8)) (eight-at bs (j / 8) k ∙ read (j / 8) k) in
       elim (cases-lt (v / 8) (stride n)) [
-        inl in′ ↦ (
-          let there : bitOf (sumOf bs) j ≡ bitOf (getD bits (place n u v) 0) (v % 8) =
-              raw ∙ ap (λ t. bitOf t (j % 8)) (cond-true _ _ _ (lt-ltb at (u * stride n + stride n) (omega arith))) ∙ ap₂ (λ a b. bitOf (getD bits a 0) b) q r in
-          elim (cases-lt v n) [
-            inl l ↦ there ∙ sym (bit-inside n bits u v person l)
-          | inr l ↦ there
-              ∙ sym (ap (λ t. t && bitOf (getD bits (place n u v) 0) (v % 8)) (and-from (ltb u n) _ (lt-ltb u n person) (and-from (leb n v) _ (le-leb n v l) (lt-ltb v (8 * stride n) (omega arith)))))
-              ∙ clear u v ∙ sym (bit-past n bits u v l) ])
-      | inr out ↦ raw ∙ ap (λ t. bitOf t (j % 8)) (cond-false _ _ _ (le-ltb at (u * stride n + stride n) (omega arith))) ∙ no-bit (j % 8) ∙ sym (bit-past n bits u v (omega arith)) ]
+        | inl in′ ↦ (
+            let there : bitOf (sumOf bs) j ≡ bitOf (getD bits (place n u v) 0) (v % 8) =
+            raw ∙ ap (λ t. bitOf t (j % 8)) (cond-true _ _ _ (lt-ltb at (u * stride n + stride n) (omega arith))) ∙ ap₂ (λ a b. bitOf (getD bits a 0) b) q r in
+            elim (cases-lt v n) [
+              | inl l ↦ there ∙ sym (bit-inside n bits u v person l)
+              | inr l ↦ there
+                  ∙ sym (ap (λ t. t && bitOf (getD bits (place n u v) 0) (v % 8)) (and-from (ltb u n) _ (lt-ltb u n person) (and-from (leb n v) _ (le-leb n v l) (lt-ltb v (8 * stride n) (omega arith)))))
+                  ∙ clear u v ∙ sym (bit-past n bits u v l)
+            ])
+        | inr out ↦ raw ∙ ap (λ t. bitOf t (j % 8)) (cond-false _ _ _ (le-ltb at (u * stride n + stride n) (omega arith))) ∙ no-bit (j % 8) ∙ sym (bit-past n bits u v (omega arith))
+      ]
 
   pub strip-kept : setBits 64 (64 * i) (sumOf bs) ≡ kept-by (bitAt n bits u) (counting (64 * i) 64)
   strip-kept = set-kept 64 (64 * i) (sumOf bs) (bitAt n bits u) strip-bit

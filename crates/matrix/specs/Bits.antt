@@ -34,3 +34,7 @@ spareAt n bits u v = (ltb u n && (leb n v && ltb v (8 * stride n))) && bitOf (ge
 
 abbrev pub flipped : ℕ → List ℕ → ℕ → ℕ → List ℕ
 flipped n bits u v = set bits (place n u v) (bitXor (getD bits (place n u v) 0) (2 ^ (v % 8)))
+
+-- both bits of a pair turned over
+abbrev pub pairFlipped : ℕ → List ℕ → ℕ → ℕ → List ℕ
+pairFlipped n bits u v = flipped n (flipped n bits u v) v u

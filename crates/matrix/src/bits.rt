@@ -2,9 +2,9 @@
 ghost use mathlib.Core.Path.{_≡_};
 ghost use mathlib.Core.Bool.{false};
 ghost use Prim.Native.Nat.{ℕ, _*_, _<_, _≤_};
-ghost use lib.ListN.{length};
+ghost use lib.ListN.{length, getD};
 ghost use Rattle.grades.specs.Places.{onto};
-ghost use Rattle.matrix.specs.Bits.{stride, bitAt, spareAt, flipped};
+ghost use Rattle.matrix.specs.Bits.{stride, bitAt, spareAt, flipped, pairFlipped};
 ghost use Rattle.std.specs.Finite.{nth};
 ghost use Rattle.std.specs.Iters.{counting};
 ghost use Rattle.std.specs.shelf.Lists.{kept-by};
@@ -64,4 +64,20 @@ pub(crate) fn flip(bits: &mut [u8], n: usize, u: usize, v: usize)
 {
     let at = u * ((n + 7) / 8) + v / 8;
     bits[at] = bits[at] ^ (1 << (v % 8));
+}
+
+// Both bits of a pair.
+pub(crate) fn flip_pair(bits: &mut [u8], n: usize, u: usize, v: usize)
+    requires { ⌜ n ≤ 4096 ⌝ ∗ ⌜ n * stride n ≤ length (now bits) ⌝ ∗ ⌜ u < n ⌝ ∗ ⌜ v < n ⌝ }
+    ensures { λ _. ⌜ now (bits .exit) ≡ pairFlipped n (now (bits .entry)) u v ⌝ }
+{
+    flip(bits, n, u, v);
+    flip(bits, n, v, u);
+}
+
+// A slice of bytes holds bytes: for the proof of what the memory holds.
+pub(crate) fn are_bytes(bits: &[u8])
+    ensures { λ _. ⌜ ((i : ℕ) → getD (now (bits .entry)) i 0 < 256) ⌝ }
+{
+    let _ = bits.first();
 }

@@ -29,10 +29,11 @@ filled-more x xs i h =
 -- past the end nothing is filled
 pub filled-all : {X : Type 0} (x : X) (xs : List X) (n i : ℕ) → i ≡ min n (length xs) → filled i x xs ≡ filled n x xs
 filled-all x xs n i e = elim (cases-lt n (length xs)) [
-    inl h ↦ (let f : i ≡ n = omega arith in ap (λ k. filled k x xs) f)
+  | inl h ↦ (let f : i ≡ n = omega arith in ap (λ k. filled k x xs) f)
   | inr h ↦ (
       let f : min i (length xs) ≡ min n (length xs) = omega arith in
-      ap₂ (λ k t. replicate k x ++ t) f (drop-all i xs (omega arith) ∙ sym (drop-all n xs h))) ]
+      ap₂ (λ k t. replicate k x ++ t) f (drop-all i xs (omega arith) ∙ sym (drop-all n xs h)))
+]
 
 pub length-filled : {X : Type 0} (n : ℕ) (x : X) (xs : List X) → length (filled n x xs) ≡ length xs
 length-filled n x xs = omega (arith, length-append (replicate (min n (length xs)) x) (drop n xs), length-replicate (min n (length xs)) x, length-drop n xs)
@@ -53,3 +54,10 @@ nth-front xs n u x a b e =
 
 pub nth-front-past : {X : Type 0} (xs : List X) (n u : ℕ) → min n (length xs) ≤ u → None ≡ nth (take n xs) u
 nth-front-past xs n u h = sym (nth-past (take n xs) u (simp length-take (omega arith)))
+
+-- a write among the first n, or behind them
+pub take-set-in : {X : Type 0} (n : ℕ) (xs : List X) (i : ℕ) (x : X) → take n (set xs i x) ≡ set (take n xs) i x
+take-set-in zero xs i x = refl
+take-set-in (suc n) [] i x = refl
+take-set-in (suc n) (y ∷ xs) zero x = refl
+take-set-in (suc n) (y ∷ xs) (suc i) x = ap (λ t. y ∷ t) (take-set-in n xs i x)

@@ -1,15 +1,18 @@
 -- When a change is granted. Assumes nothing.
-use mathlib.Core.Path.{_≡_, sym, ap, _∙_}
+use mathlib.Core.Path.{_≡_, refl, _∙_}
 use mathlib.Core.Bool.{Bool, true, false, cond, _||_}
 use Prim.Native.Nat.{ℕ, _<_, _≤_, min}
 use native.Mathlib.Omega.{arith}
 use lib.Dec.{eqb, leb}
-use Rattle.std.proofs.shelf.Tests.{lt-leb, ne-eqb, or-from, cond-false, cond-true}
+use Rattle.std.proofs.shelf.Tests.{lt-leb, ne-eqb, or-from, cond-false, cond-true, both-ways}
+use Rattle.std.specs.Results.{isOk}
+use Rattle.faults.specs.Answers.{answered}
 use Rattle.std.specs.declared.option.Option.{Option}
 use Rattle.std.specs.declared.option.Option.the-variants.{Some, None}
 use Rattle.faults.specs.declared.call_fault.CallFault.{CallFault}
 use Rattle.faults.specs.declared.call_fault.CallFault.the-variants.{AtCeiling}
 use Rattle.std.proofs.shelf.Ways.{tells}
+use Rattle.networks.specs.Fixed.{openedSize}
 use Rattle.networks.specs.Net.{Net, degreeOf}
 use Rattle.networks.specs.Changes.{pairFault, linkFault, capsLink, unlinkFault, regradeFault}
 
@@ -38,3 +41,12 @@ cap-refuses net limit ceiling u v h = grind (arith, tells)
 
 pub cap-passes : {G : Type 0} (net : Net G) (limit ceiling u v : ℕ) → capsLink limit net u v ≡ false → linkFault (min limit ceiling) net u v ≡ linkFault ceiling net u v
 cap-passes net limit ceiling u v h = grind (arith, tells)
+
+-- what a check that grants, or refuses, says of the refusal
+pub granted-none : (f : Option CallFault) → isOk (answered f (tt {0})) ≡ true → f ≡ None
+granted-none None h = refl
+granted-none (Some x) h = absurd (both-ways false refl h)
+
+pub refused-none : (f : Option CallFault) (n : ℕ) → isOk (answered f (tt {0})) ≡ false → openedSize f n ≡ 0
+refused-none None n h = absurd (both-ways true h refl)
+refused-none (Some x) n h = refl

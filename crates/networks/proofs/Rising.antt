@@ -2,6 +2,7 @@
 use mathlib.Core.Path.{_≡_, refl, sym, ap, _∙_}
 use mathlib.Core.Bool.{Bool, true, false, cond}
 use mathlib.Core.List.{List, [], _∷_, _++_}
+use mathlib.Core.Logic.{inl, inr}
 use Prim.Native.Nat.{ℕ, zero, suc, _+_, _-_, _<_, _≤_}
 use native.Mathlib.Omega.{arith}
 use lib.ListN.{length, getD}
@@ -14,6 +15,7 @@ use Rattle.std.proofs.shelf.Counted.{map-counting-more}
 use Rattle.std.proofs.shelf.Elements.{all-getD, all-kept-by, kept-by-append}
 use Rattle.std.proofs.shelf.Lists.{append-nil, length-append, map-id}
 use Rattle.std.proofs.shelf.Maps.{nth-getD}
+use Rattle.std.proofs.shelf.Tests.{cases-eq, cases-lt}
 
 all-counting : (a n m : ℕ) → a + n ≤ m → All (λ x. x < m) (counting a n)
 all-counting a zero m h = tt
@@ -85,12 +87,47 @@ kept-at p n v i h t e =
     let split : n ≡ v + suc rest = omega arith in
     let front = kept-by p (counting 0 v) in
     let kept : kept-by p (counting 0 n) ≡ front ++ v ∷ kept-by p (counting (v + 1) rest) =
-        ap (λ m. kept-by p (counting 0 m)) split ∙ kept-append p v (suc rest)
-        ∙ ap (λ b. front ++ cond b (v ∷ kept-by p (counting (v + 1) rest)) (kept-by p (counting (v + 1) rest))) t in
+    ap (λ m. kept-by p (counting 0 m)) split ∙ kept-append p v (suc rest)
+    ∙ ap (λ b. front ++ cond b (v ∷ kept-by p (counting (v + 1) rest)) (kept-by p (counting (v + 1) rest))) t in
     ap (nth (kept-by p (counting 0 n))) e ∙ ap (λ l. nth l (length front)) kept ∙ nth-at front v (kept-by p (counting (v + 1) rest))
 
 pub kept-few : (p : ℕ → Bool) (a n : ℕ) → length (kept-by p (counting a n)) ≤ n
 kept-few p a zero = omega arith
 kept-few p a (suc n) = elim (p a) as (λ b. length (cond b (a ∷ kept-by p (counting (a + 1) n)) (kept-by p (counting (a + 1) n))) ≤ suc n) [
-    true ↦ (let r = kept-few p (a + 1) n in omega arith)
-  | false ↦ (let r = kept-few p (a + 1) n in omega arith) ]
+  | true ↦ (let r = kept-few p (a + 1) n in omega arith)
+  | false ↦ (let r = kept-few p (a + 1) n in omega arith)
+]
+
+-- one number that fails is not among them, nor are two
+kept-miss : (p : ℕ → Bool) (a n u : ℕ) → a ≤ u → u < a + n → p u ≡ false → length (kept-by p (counting a n)) + 1 ≤ n
+kept-miss p a zero u l h f = absurd (omega arith)
+kept-miss p a (suc n) u l h f = elim (cases-eq a u) [
+  | inl e ↦ (
+      let here = ap p e ∙ f in
+      let r = kept-few p (a + 1) n in
+      let s = ap (λ b. length (cond b (a ∷ kept-by p (counting (a + 1) n)) (kept-by p (counting (a + 1) n)))) here in
+      omega arith)
+  | inr d ↦ (
+      let r = kept-miss p (a + 1) n u (omega arith) (omega arith) f in
+      let s = kept-first p a n in
+      omega arith)
+]
+  where
+    kept-first : (p : ℕ → Bool) (a n : ℕ) → length (kept-by p (counting a (suc n))) ≤ suc (length (kept-by p (counting (a + 1) n)))
+    kept-first p a n = elim (p a) as (λ b. length (cond b (a ∷ kept-by p (counting (a + 1) n)) (kept-by p (counting (a + 1) n))) ≤ suc (length (kept-by p (counting (a + 1) n)))) [
+      | true ↦ omega arith
+      | false ↦ omega arith
+    ]
+
+pub kept-misses : (p : ℕ → Bool) (n u v : ℕ) → u < n → v < n → (u ≡ v → ⊥) → p u ≡ false → p v ≡ false → length (kept-by p (counting 0 n)) + 2 ≤ n
+kept-misses p n u v a b ne f g = elim (cases-lt u v) [ inl l ↦ go u v l b f g | inr l ↦ go v u (omega arith) a g f ]
+  where
+    go : (u v : ℕ) → u < v → v < n → p u ≡ false → p v ≡ false → length (kept-by p (counting 0 n)) + 2 ≤ n
+    go u v l b f g =
+        let m = n - (u + 1) in
+        let e : n ≡ u + 1 + m = omega arith in
+        let cut = ap length (ap (λ t. kept-by p (counting 0 t)) e ∙ kept-append p (u + 1) m ∙ ap (λ t. t ++ kept-by p (counting (u + 1) m)) (kept-same p u f))
+        ∙ length-append (kept-by p (counting 0 u)) (kept-by p (counting (u + 1) m)) in
+        let front = kept-few p 0 u in
+        let back = kept-miss p (u + 1) m v (omega arith) (omega arith) g in
+        omega arith

@@ -47,10 +47,10 @@ loop-i-again c =
     let p = bitAt n bits u in
     let row = kept-by p (counting 0 (64 * i)) in
     let strip = ap (setBits 64 (64 * i)) (c .from-le-bytes-word .ensures)
-        ∙ strip-kept n bits u i (c .if-u-n .left) (c .pre .spare) (λ k. c .typed .bits k .fits) (c .eight .result) (c .eight .ensures) in
+    ∙ strip-kept n bits u i (c .if-u-n .left) (c .pre .spare) (λ k. c .typed .bits k .fits) (c .eight .result) (c .eight .ensures) in
     let more : 64 * i + 64 ≡ 64 * (i + 1) = omega arith in
     let all : row ++ setBits 64 (64 * i) (c .from-le-bytes-word .result) ≡ kept-by p (counting 0 (64 * (i + 1))) =
-        ap (λ t. row ++ t) strip ∙ sym (kept-append p (64 * i) 64) ∙ ap (λ m. kept-by p (counting 0 m)) more in
+    ap (λ t. row ++ t) strip ∙ sym (kept-append p (64 * i) 64) ∙ ap (λ m. kept-by p (counting 0 m)) more in
     let said = c .copy-set-bits-count .ensures row (c .args .places .now) (c .loop-i .inv .0) (c .loop-i .inv .1) in
     (said .0 ∙ ap length all, said .1 ∙ ap (λ t. onto t (c .args .places .now)) all)
 

@@ -20,12 +20,13 @@ loop-v-again c =
     let p = bitAt (c .args .n) (c .args .bits .now) (c .args .u) in
     let i = c .loop-v .inv in
     elim (c .if-bit .came) [
-        then-bit·else-before-i w ↦ (
+      | then-bit·else-before-i w ↦ (
           let m = length-kept-push p (c .loop-v .v) (sym (c .bit .ensures) ∙ w .if-bit .taken) in
           (omega (arith, w .before-is, i .0, m), omega (arith, w .before-is, i .1), omega (arith, w .before-is, i .2, w .if-before-i .left)))
       | else-bit w ↦ (
           let m = ap length (kept-same p (c .loop-v .v) (sym (c .bit .ensures) ∙ w .if-bit .left)) in
-          (omega (arith, w .before-is, i .0, m), omega (arith, w .before-is, i .1), omega (arith, w .before-is, i .2))) ]
+          (omega (arith, w .before-is, i .0, m), omega (arith, w .before-is, i .1), omega (arith, w .before-is, i .2)))
+    ]
 
 pub returns : need.returns
 returns c =
