@@ -1,0 +1,87 @@
+-- The list of the members of a set.
+use mathlib.Core.Path.{ap, refl, _≡_}
+use mathlib.Core.Bool.{Bool, cond, false, true}
+use mathlib.Core.Logic.{inl, inr, _⊎_}
+use mathlib.Core.List.{List, _∷_}
+use Prim.Native.Nat.{_+_, _<_, suc, zero, ℕ, _≤_}
+use native.Mathlib.Omega.{arith}
+use lib.Dec.{leb, ltb}
+use lib.ListN.{length}
+use Rattle.std.proofs.shelf.Tests.{both-ways, cases-eq, cases-lt, le-leb, lt-ltb, ltb-true}
+use Rattle.theory.specs.ListingLaws.{Members-rise}
+use Rattle.theory.specs.Orders.{Ranking}
+use Rattle.theory.specs.Sets.{_among_, bit, count, ListOf, members, Pairwise, Set, _∈_}
+use Rattle.theory.proofs.Counting.{count-suc, count-zero}
+use Rattle.theory.proofs.Lists.{all-from, pairwise-weaker}
+use Rattle.theory.proofs.Ranked.{rising-same}
+use Rattle.theory.proofs.Sets.{false-since}
+
+module _ (p : Set) where
+  pub members-among : (a n v : ℕ) → a ≤ v → v < a + n → v ∈ p → v among members p a n
+  unfolding members
+  members-among a zero v l h m = absurd (omega arith)
+  members-among a (suc n) v l h m = go (p a) refl (cases-eq v a) (members-among (suc a) n v)
+    where
+      go : (b : Bool) → p a ≡ b → (v ≡ a) ⊎ (v ≡ a → ⊥) → (suc a ≤ v → v < suc a + n → v ∈ p → v among members p (suc a) n) → v among cond b (a ∷ members p (suc a) n) (members p (suc a) n)
+      go true e (inl s) ih = inl s
+      go true e (inr d) ih = inr (ih (omega arith) (omega arith) m)
+      go false e (inl s) ih = absurd (both-ways (p a) e (rw s at m))
+      go false e (inr d) ih = ih (omega arith) (omega arith) m
+
+  pub among-members : (a n v : ℕ) → v among members p a n → (a ≤ v) × (v < a + n) × (v ∈ p)
+  unfolding members
+  among-members a zero v m = absurd m
+  among-members a (suc n) v m = go (p a) refl m (among-members (suc a) n v)
+    where
+      go : (b : Bool) → p a ≡ b → v among cond b (a ∷ members p (suc a) n) (members p (suc a) n) → (v among members p (suc a) n → (suc a ≤ v) × (v < suc a + n) × (v ∈ p)) → (a ≤ v) × (v < a + suc n) × (v ∈ p)
+      go true e (inl s) ih = (omega arith, omega arith, rw s e)
+      go true e (inr m) ih = let (l, h, q) = ih m in (omega arith, omega arith, q)
+      go false e m ih = let (l, h, q) = ih m in (omega arith, omega arith, q)
+
+  pub members-length : (a n : ℕ) → length (members p a n) + count p a ≡ count p (a + n)
+  unfolding members
+  members-length a zero = let e : a + 0 ≡ a = omega arith in omega (arith, ap (count p) e)
+  members-length a (suc n) = go (p a) refl (members-length (suc a) n)
+    where
+      e : suc a + n ≡ a + suc n
+      e = omega arith
+
+      one : count p (suc a) ≡ bit (p a) + count p a
+      one = count-suc p a
+
+      go : (b : Bool) → p a ≡ b → length (members p (suc a) n) + count p (suc a) ≡ count p (suc a + n) → length (cond b (a ∷ members p (suc a) n) (members p (suc a) n)) + count p a ≡ count p (a + suc n)
+      go true q ih = omega (arith, ih, one, ap bit q, ap (count p) e)
+      go false q ih = omega (arith, ih, one, ap bit q, ap (count p) e)
+
+members-up : (p : Set) (a n : ℕ) → Pairwise (λ u v. u < v) (members p a n)
+unfolding members
+members-up p a zero = tt
+members-up p a (suc n) = go (p a) (members-up p (suc a) n)
+  where
+    go : (b : Bool) → Pairwise (λ u v. u < v) (members p (suc a) n) → Pairwise (λ u v. u < v) (cond b (a ∷ members p (suc a) n) (members p (suc a) n))
+    go true h = (all-from (λ v. a < v) (members p (suc a) n) (λ v m. let x = among-members p (suc a) n v m .0 in omega arith), h)
+    go false h = h
+
+pub members-rise : Members-rise
+members-rise p n = (
+  members-up p 0 n,
+  (λ v. ((λ m. let (a, b, c) = among-members p 0 n v m in (omega arith, c)), (λ l m. members-among p 0 n v (omega arith) (omega arith) m))),
+  let z : 0 + n ≡ n = omega arith in omega (arith, members-length p 0 n, count-zero p, ap (count p) z),
+)
+
+pub members-list : (S : Set) (n : ℕ) → ((v : ℕ) → v ∈ S → v < n) → ListOf S (members S 0 n)
+members-list S n ins = let (up, holds, _) = members-rise S n in (up, λ v. ((λ m. holds v .0 m .1), (λ m. holds v .1 (ins v m) m)))
+
+number-ranking : Ranking leb ltb
+number-ranking =
+    record {
+      one-way = λ u v h. false-since (ltb v u) (λ h′. omega (arith, ltb-true u v h, ltb-true v u h′));
+      through = λ u v w h h′. lt-ltb u w (omega (arith, ltb-true u v h, ltb-true v w h′));
+      either = λ u v d. elim (cases-lt u v) [ inl l ↦ inl (lt-ltb u v l) | inr l ↦ inr (lt-ltb v u (omega arith)) ];
+      agrees = λ u v h. le-leb u v (omega (arith, ltb-true u v h));
+    }
+
+-- a set has one list of members
+pub list-same : (S : Set) (us vs : List ℕ) → ListOf S us → ListOf S vs → us ≡ vs
+list-same S us vs (p, f) (q, h) =
+    rising-same ltb number-ranking us vs (pairwise-weaker _ _ (λ a b l. lt-ltb a b l) us p) (pairwise-weaker _ _ (λ a b l. lt-ltb a b l) vs q) (λ v m. h v .1 (f v .0 m)) (λ v m. f v .1 (h v .0 m))
