@@ -3,7 +3,7 @@ use mathlib.Core.Path.{ap, refl, subst, sym, _∙_, _≡_}
 use mathlib.Core.Bool.{true}
 use mathlib.Core.Logic.{inl, inr}
 use mathlib.Core.List.{[], List, map, map-map, _∷_}
-use Prim.Native.Nat.{_-_, ℕ}
+use Prim.Native.Nat.{_-_, _<_, ℕ}
 use native.Mathlib.Omega.{arith}
 use lib.ListN.{drop, length}
 use Rattle.std.specs.shelf.Lists.{All, kept-by}
@@ -14,10 +14,10 @@ use Rattle.theory.specs.Cores.{circleAt, core, everyone}
 use Rattle.theory.specs.Graphs.{Graph, Lawful}
 use Rattle.theory.specs.Listing.{Choice, Chosen, Entered, Entry, entry, every, innermost, isChosen, isName, last, LevelLists, listing, Lists, names, ranked, Wanted}
 use Rattle.theory.specs.ListingLaws.{Listing-is-right, Peeling-lists}
-use Rattle.theory.specs.Orders.{Below, byNumber, Order, Ranking, Strict, Weakest}
+use Rattle.theory.specs.Orders.{Below, byNumber, Order, Strict, Weakest}
 use Rattle.theory.specs.Peeling.{peel}
-use Rattle.theory.specs.Sets.{_among_, ListOf, members, Pairwise, Relation, Set}
-use Rattle.theory.proofs.Circles.{at-weakest, circle-is, circle-known, circle-made, from-level, to-level}
+use Rattle.theory.specs.Sets.{_among_, ListOf, members, Pairwise, Relation, Set, _∈_}
+use Rattle.theory.proofs.Circles.{at-weakest, circle-known, circle-made, from-level, to-level}
 use Rattle.theory.proofs.Listed.{level-listing-is-right}
 use Rattle.theory.proofs.Lists.{all-among, among-kept, among-map, kept-among, map-among, map-same, pairwise-kept, pairwise-map}
 use Rattle.theory.proofs.Members.{list-same, members-list}
@@ -35,53 +35,60 @@ chosen-circle : (A : Set → Type 0) (ch : Choice) (S : Set) → Chosen A ch S �
 chosen-circle A every S c = c
 chosen-circle A innermost S c = c .0
 
+-- w is the weakest person of a chosen circle
+abbrev pub Head : Graph → Relation → ℕ → Choice → ℕ → Type 0
+Head g le k ch w = (S : Set) × Chosen (Circle g le k) ch S × Weakest le S w
+
 module _ (g : Graph) (o : Lawful g) (le : Relation) (t : Order le) (str : Strict le) (k : ℕ) (ch : Choice) where
-  abbrev wk : Relation
-  wk = byNumber le
+  pub wanted-head : (w : ℕ) → Wanted g le (byNumber le) k ch w → Head g le k ch w
+  wanted-head w (S, c, n) = (S, chosen-as _ _ (from-level g le t k) (to-level g le str k) ch S c, named-weakest (byNumber le) (by-number le t) t S w n)
 
-  rk : Ranking le (byNumber le)
-  rk = by-number le t
+  pub head-wanted : (w : ℕ) → Head g le k ch w → Wanted g le (byNumber le) k ch w
+  head-wanted w (S, c, we) = (S, chosen-as _ _ (to-level g le str k) (from-level g le t k) ch S c, weakest-name le t (byNumber le) (by-number le t) str S w we)
 
-  pub wanted-entered : (w : ℕ) → Wanted g le wk k ch w → Entered g le k ch (entry g le k w)
+  pub head-person : (w : ℕ) → Head g le k ch w → w < g .size
+  head-person w (S, c, we) = chosen-circle (Circle g le k) ch S c .inside w (we .0)
+
+  pub wanted-entered : (w : ℕ) → Wanted g le (byNumber le) k ch w → Entered g le k ch (entry g le k w)
   unfolding entry
-  wanted-entered w (S, c, n) =
-      let lc : LevelCircle g le k S = chosen-circle (LevelCircle g le k) ch S c in
-      let we : Weakest le S w = named-weakest wk rk t S w n in
-      let e : S ≡ circleAt g le k w = circle-is g o le t k S w lc we .1 in
-      (S, chosen-as _ _ (from-level g le t k) (to-level g le str k) ch S c, we, subst (λ X. ListOf S (members X 0 (g .size))) e (members-list S (g .size) (lc .group .inside)))
+  wanted-entered w want =
+      let (S, c, we) = wanted-head w want in
+      let ci : Circle g le k S = chosen-circle (Circle g le k) ch S c in
+      let e : S ≡ circleAt g le k w = circle-known g o le t str k S w ci we .1 in
+      (S, c, we, subst (λ X. ListOf (λ v. v ∈ S) (members X 0 (g .size))) e (members-list S (g .size) (ci .inside)))
 
-  pub entered-wanted : (e : Entry) → Entered g le k ch e → Wanted g le wk k ch (e .0) × (e ≡ entry g le k (e .0))
+  pub entered-wanted : (e : Entry) → Entered g le k ch e → Wanted g le (byNumber le) k ch (e .0) × (e ≡ entry g le k (e .0))
   unfolding entry
   entered-wanted (w, vs) (S, c, we, ls) =
       let ci : Circle g le k S = chosen-circle (Circle g le k) ch S c in
       let e : S ≡ circleAt g le k w = circle-known g o le t str k S w ci we .1 in
-      let same : vs ≡ members (circleAt g le k w) 0 (g .size) = list-same S vs (members S 0 (g .size)) ls (members-list S (g .size) (ci .inside)) ∙ ap (λ X. members X 0 (g .size)) e in
-      ((S, chosen-as _ _ (to-level g le str k) (from-level g le t k) ch S c, weakest-name le t wk rk str S w we), ap (λ xs. (w, xs)) same)
+      let same : vs ≡ members (circleAt g le k w) 0 (g .size) = list-same (λ v. v ∈ S) vs (members S 0 (g .size)) ls (members-list S (g .size) (ci .inside)) ∙ ap (λ X. members X 0 (g .size)) e in
+      (head-wanted w (S, c, we), ap (λ xs. (w, xs)) same)
 
   module _ (r : ℕ) where
-    entered-names : (ws : List ℕ) → LevelLists g le wk k r ch ws → Lists g le k r ch (map (entry g le k) ws)
+    entered-names : (ws : List ℕ) → LevelLists g le (byNumber le) k r ch ws → Lists g le k r ch (map (entry g le k) ws)
     unfolding entry
     entered-names ws l =
         record {
           each = all-map _ _ ws (all-weaker _ _ wanted-entered ws (l .each));
-          rising = pairwise-map _ _ _ (weaker-below le str wk rk) ws (l .rising);
+          rising = pairwise-map _ _ _ (weaker-below le str (byNumber le) (by-number le t)) ws (l .rising);
           few = omega (arith, length-map ws (entry g le k), l .few);
           strongest = λ e x. let (want, q) = entered-wanted e x in elim (l .strongest (e .0) want) [
             | inl m ↦ inl (subst (λ z. z among map (entry g le k) ws) (sym q) (among-map (entry g le k) ws (e .0) m))
-            | inr h ↦ inr (length-map ws (entry g le k) ∙ h .0, all-map _ _ ws (all-weaker _ _ (λ v b. weaker-below le str wk rk (e .0) v b) ws (h .1)))
+            | inr h ↦ inr (length-map ws (entry g le k) ∙ h .0, all-map _ _ ws (all-weaker _ _ (λ v b. weaker-below le str (byNumber le) (by-number le t) (e .0) v b) ws (h .1)))
           ];
         }
 
-    names-entered : (es : List Entry) → Lists g le k r ch es → LevelLists g le wk k r ch (map (λ e. e .0) es)
+    names-entered : (es : List Entry) → Lists g le k r ch es → LevelLists g le (byNumber le) k r ch (map (λ e. e .0) es)
     unfolding entry
     names-entered es l =
         record {
           each = all-map _ _ es (all-weaker _ _ (λ e x. entered-wanted e x .0) es (l .each));
-          rising = pairwise-map _ _ _ (λ e f b. below-weaker le t wk rk (e .0) (f .0) b) es (l .rising);
+          rising = pairwise-map _ _ _ (λ e f b. below-weaker le t (byNumber le) (by-number le t) (e .0) (f .0) b) es (l .rising);
           few = omega (arith, length-map es (λ e. e .0), l .few);
           strongest = λ w want. elim (l .strongest (entry g le k w) (wanted-entered w want)) [
             | inl m ↦ inl (among-map (λ e. e .0) es (entry g le k w) m)
-            | inr h ↦ inr (length-map es (λ e. e .0) ∙ h .0, all-map _ _ es (all-weaker _ _ (λ e b. below-weaker le t wk rk w (e .0) b) es (h .1)))
+            | inr h ↦ inr (length-map es (λ e. e .0) ∙ h .0, all-map _ _ es (all-weaker _ _ (λ e b. below-weaker le t (byNumber le) (by-number le t) w (e .0) b) es (h .1)))
           ];
         }
 

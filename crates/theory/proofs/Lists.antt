@@ -1,5 +1,5 @@
 -- Elements of lists: what is kept, dropped and mapped, and pairs in order.
-use mathlib.Core.Path.{ap, refl, sym, _≡_}
+use mathlib.Core.Path.{ap, refl, subst, sym, _∙_, _≡_}
 use mathlib.Core.Bool.{_&&_, and-false, and-true, Bool, cond, false, not, true}
 use mathlib.Core.Logic.{inl, inr, _≢_, _⊎_}
 use mathlib.Core.List.{[], List, map, _∷_}
@@ -47,6 +47,32 @@ pub pairwise-map : {A B : Type 0} (R : A → A → Type 0) (R′ : B → B → T
 pairwise-map R R′ f h [] p = tt
 pairwise-map R R′ f h (x ∷ xs) p = (all-map (R′ (f x)) f xs (all-weaker _ _ (λ y r. h x y r) xs (p .0)), pairwise-map R R′ f h xs (p .1))
 
+pub all-among : {A : Type 0} (P : A → Type 0) (xs : List A) (x : A) → All P xs → x among xs → P x
+all-among P [] x a m = absurd m
+all-among P (y ∷ ys) x a (inl e) = rw e (a .0)
+all-among P (y ∷ ys) x a (inr m) = all-among P ys x (a .1) m
+
+-- lists in order with the same elements are the same
+pub pairwise-same : {A : Type 0} (R : A → A → Type 0) → ((x y : A) → R x y → R y x → ⊥) → (xs ys : List A) → Pairwise R xs → Pairwise R ys → ((v : A) → v among xs → v among ys) → ((v : A) → v among ys → v among xs) → xs ≡ ys
+pairwise-same R one-way [] [] p q f h = refl
+pairwise-same R one-way [] (y ∷ ys) p q f h = absurd (h y (inl refl))
+pairwise-same R one-way (x ∷ xs) [] p q f h = absurd (f x (inl refl))
+pairwise-same R one-way (x ∷ xs) (y ∷ ys) p q f h = go (f x (inl refl)) (h y (inl refl)) (pairwise-same R one-way xs ys (p .1) (q .1))
+  where
+    tail : (a b : _) (cs bs : List _) → a ≡ b → All (R a) cs → ((v : _) → v among (a ∷ cs) → v among (b ∷ bs)) → (v : _) → v among cs → v among bs
+    tail a b cs bs e al k v m = elim (k v (inr m)) [
+      | inl s ↦ absurd (let self : R a a = subst (R a) (s ∙ sym e) (all-among (R a) cs v al m) in one-way a a self self)
+      | inr n ↦ n
+    ]
+
+    same : x ≡ y → (((v : _) → v among xs → v among ys) → ((v : _) → v among ys → v among xs) → xs ≡ ys) → (x ∷ xs) ≡ (y ∷ ys)
+    same e ih = let t : xs ≡ ys = ih (tail x y xs ys e (p .0) f) (tail y x ys xs (sym e) (q .0) h) in cc
+
+    go : x among (y ∷ ys) → y among (x ∷ xs) → (((v : _) → v among xs → v among ys) → ((v : _) → v among ys → v among xs) → xs ≡ ys) → (x ∷ xs) ≡ (y ∷ ys)
+    go (inl e) b ih = same e ih
+    go (inr m) (inl e) ih = same (sym e) ih
+    go (inr m) (inr n) ih = absurd (one-way x y (all-among (R x) xs y (p .0) n) (all-among (R y) ys x (q .0) m))
+
 pub among-kept : {A : Type 0} (q : A → Bool) (xs : List A) (x : A) → x among xs → q x ≡ true → x among kept-by q xs
 among-kept q [] x m h = absurd m
 among-kept q (y ∷ ys) x m h = go (q y) refl m (λ n. among-kept q ys x n h)
@@ -80,11 +106,6 @@ map-among f (x ∷ xs) y (inr m) = let (z, n, e) = map-among f xs y m in (z, inr
 pub map-same : {A B : Type 0} (f h : A → B) (xs : List A) → ((x : A) → x among xs → f x ≡ h x) → map f xs ≡ map h xs
 map-same f h [] e = refl
 map-same f h (x ∷ xs) e = let a : f x ≡ h x = e x (inl refl) in let b : map f xs ≡ map h xs = map-same f h xs (λ y m. e y (inr m)) in cc
-
-pub all-among : {A : Type 0} (P : A → Type 0) (xs : List A) (x : A) → All P xs → x among xs → P x
-all-among P [] x a m = absurd m
-all-among P (y ∷ ys) x a (inl e) = rw e (a .0)
-all-among P (y ∷ ys) x a (inr m) = all-among P ys x (a .1) m
 
 pub all-from : {A : Type 0} (P : A → Type 0) (xs : List A) → ((x : A) → x among xs → P x) → All P xs
 all-from P [] f = tt

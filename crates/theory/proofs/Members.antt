@@ -5,16 +5,12 @@ use mathlib.Core.Logic.{inl, inr, _⊎_}
 use mathlib.Core.List.{List, _∷_}
 use Prim.Native.Nat.{_+_, _<_, suc, zero, ℕ, _≤_}
 use native.Mathlib.Omega.{arith}
-use lib.Dec.{leb, ltb}
 use lib.ListN.{length}
-use Rattle.std.proofs.shelf.Tests.{both-ways, cases-eq, cases-lt, le-leb, lt-ltb, ltb-true}
+use Rattle.std.proofs.shelf.Tests.{both-ways, cases-eq}
 use Rattle.theory.specs.ListingLaws.{Members-rise}
-use Rattle.theory.specs.Orders.{Ranking}
 use Rattle.theory.specs.Sets.{_among_, bit, count, ListOf, members, Pairwise, Set, _∈_}
 use Rattle.theory.proofs.Counting.{count-suc, count-zero}
-use Rattle.theory.proofs.Lists.{all-from, pairwise-weaker}
-use Rattle.theory.proofs.Ranked.{rising-same}
-use Rattle.theory.proofs.Sets.{false-since}
+use Rattle.theory.proofs.Lists.{all-from, pairwise-same}
 
 module _ (p : Set) where
   pub members-among : (a n v : ℕ) → a ≤ v → v < a + n → v ∈ p → v among members p a n
@@ -69,19 +65,9 @@ members-rise p n = (
   let z : 0 + n ≡ n = omega arith in omega (arith, members-length p 0 n, count-zero p, ap (count p) z),
 )
 
-pub members-list : (S : Set) (n : ℕ) → ((v : ℕ) → v ∈ S → v < n) → ListOf S (members S 0 n)
+pub members-list : (S : Set) (n : ℕ) → ((v : ℕ) → v ∈ S → v < n) → ListOf (λ v. v ∈ S) (members S 0 n)
 members-list S n ins = let (up, holds, _) = members-rise S n in (up, λ v. ((λ m. holds v .0 m .1), (λ m. holds v .1 (ins v m) m)))
 
-number-ranking : Ranking leb ltb
-number-ranking =
-    record {
-      one-way = λ u v h. false-since (ltb v u) (λ h′. omega (arith, ltb-true u v h, ltb-true v u h′));
-      through = λ u v w h h′. lt-ltb u w (omega (arith, ltb-true u v h, ltb-true v w h′));
-      either = λ u v d. elim (cases-lt u v) [ inl l ↦ inl (lt-ltb u v l) | inr l ↦ inr (lt-ltb v u (omega arith)) ];
-      agrees = λ u v h. le-leb u v (omega (arith, ltb-true u v h));
-    }
-
--- a set has one list of members
-pub list-same : (S : Set) (us vs : List ℕ) → ListOf S us → ListOf S vs → us ≡ vs
-list-same S us vs (p, f) (q, h) =
-    rising-same ltb number-ranking us vs (pairwise-weaker _ _ (λ a b l. lt-ltb a b l) us p) (pairwise-weaker _ _ (λ a b l. lt-ltb a b l) vs q) (λ v m. h v .1 (f v .0 m)) (λ v m. f v .1 (h v .0 m))
+-- a property has one rising list
+pub list-same : (P : ℕ → Type 0) (us vs : List ℕ) → ListOf P us → ListOf P vs → us ≡ vs
+list-same P us vs (p, f) (q, h) = pairwise-same (λ u v. u < v) (λ u v a b. omega arith) us vs p q (λ v m. h v .1 (f v .0 m)) (λ v m. f v .1 (h v .0 m))

@@ -13,7 +13,7 @@ use Rattle.theory.specs.Listing.{insert, ranked}
 use Rattle.theory.specs.Orders.{Ranking}
 use Rattle.theory.specs.Sets.{_among_, Pairwise, Relation}
 use Rattle.theory.proofs.Counting.{one-more}
-use Rattle.theory.proofs.Lists.{all-among}
+use Rattle.theory.proofs.Lists.{all-among, pairwise-same}
 
 module _ {le : Relation} (wk : Relation) (rk : Ranking le wk) where
   pub never : (u : ℕ) → wk u u ≡ true → ⊥
@@ -64,24 +64,7 @@ module _ {le : Relation} (wk : Relation) (rk : Ranking le wk) where
   ranked-rising (suc n) = insert-rising n (ranked wk n) (all-weaker _ _ (λ v l. omega arith) (ranked wk n) (ranked-below n)) (ranked-rising n)
 
   pub rising-same : (xs ys : List ℕ) → Pairwise (λ u v. wk u v ≡ true) xs → Pairwise (λ u v. wk u v ≡ true) ys → ((v : ℕ) → v among xs → v among ys) → ((v : ℕ) → v among ys → v among xs) → xs ≡ ys
-  rising-same [] [] p q f h = refl
-  rising-same [] (y ∷ ys) p q f h = absurd (h y (inl refl))
-  rising-same (x ∷ xs) [] p q f h = absurd (f x (inl refl))
-  rising-same (x ∷ xs) (y ∷ ys) p q f h = go (f x (inl refl)) (h y (inl refl)) (rising-same xs ys (p .1) (q .1))
-    where
-      tail : (a b : ℕ) (cs bs : List ℕ) → a ≡ b → All (λ v. wk a v ≡ true) cs → ((v : ℕ) → v among (a ∷ cs) → v among (b ∷ bs)) → (v : ℕ) → v among cs → v among bs
-      tail a b cs bs e al k v m = elim (k v (inr m)) [
-        | inl s ↦ absurd (never a (rw (s ∙ sym e) at (all-among (λ v. wk a v ≡ true) cs v al m)))
-        | inr n ↦ n
-      ]
-
-      same : x ≡ y → (((v : ℕ) → v among xs → v among ys) → ((v : ℕ) → v among ys → v among xs) → xs ≡ ys) → (x ∷ xs) ≡ (y ∷ ys)
-      same e ih = let t : xs ≡ ys = ih (tail x y xs ys e (p .0) f) (tail y x ys xs (sym e) (q .0) h) in cc
-
-      go : x among (y ∷ ys) → y among (x ∷ xs) → (((v : ℕ) → v among xs → v among ys) → ((v : ℕ) → v among ys → v among xs) → xs ≡ ys) → (x ∷ xs) ≡ (y ∷ ys)
-      go (inl e) b ih = same e ih
-      go (inr m) (inl e) ih = same (sym e) ih
-      go (inr m) (inr n) ih = absurd (both-ways (wk x y) (rk .one-way y x (all-among _ ys x (q .0) m)) (all-among _ xs y (p .0) n))
+  rising-same = pairwise-same (λ u v. wk u v ≡ true) (λ u v h h′. both-ways (wk v u) (rk .one-way u v h) h′)
 
   -- a rising list whose members another has is no longer
   pub rising-fits : (xs ys : List ℕ) → Pairwise (λ u v. wk u v ≡ true) xs → Pairwise (λ u v. wk u v ≡ true) ys → ((v : ℕ) → v among xs → v among ys) → length xs ≤ length ys

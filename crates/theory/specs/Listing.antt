@@ -17,7 +17,7 @@ use Prim.Native.Nat.{ℕ, zero, suc, _-_, _≤_}
 use lib.Dec.{eqb}
 use lib.ListN.{length, drop}
 use Rattle.std.specs.shelf.Lists.{All, kept-by}
-use Rattle.theory.specs.Sets.{Set, Relation, any, _among_, Pairwise, members, ListOf}
+use Rattle.theory.specs.Sets.{Set, Relation, _∈_, any, _among_, Pairwise, members, ListOf}
 use Rattle.theory.specs.Graphs.{Graph}
 use Rattle.theory.specs.Orders.{Below, Weakest, Named, byNumber}
 use Rattle.theory.specs.Circles.{Circle, LevelCircle, Innermost}
@@ -41,7 +41,7 @@ abbrev pub Entry : Type 0
 Entry = ℕ × List ℕ
 
 abbrev pub Entered : Graph → Relation → ℕ → Choice → Entry → Type 0
-Entered g le k choice e = (S : Set) × Chosen (Circle g le k) choice S × Weakest le S (e .0) × ListOf S (e .1)
+Entered g le k choice e = (S : Set) × Chosen (Circle g le k) choice S × Weakest le S (e .0) × ListOf (λ v. v ∈ S) (e .1)
 
 -- one circle is below another when its weakest person is weaker
 abbrev pub Lists : Graph → Relation → ℕ → ℕ → Choice → List Entry → Type 0

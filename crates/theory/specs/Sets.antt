@@ -12,7 +12,7 @@
 --     x among xs, has v vs        x stands in the list; the same as a test
 --     Pairwise R xs               each element stands in R to all behind it
 --     members p a n               those of n numbers, from a on, that pass; rising
---     ListOf S vs                 vs is the list of the members of S, rising
+--     ListOf P vs                 vs is the list of those with the property P, rising
 use mathlib.Core.Path.{_≡_}
 use mathlib.Core.Bool.{Bool, true, false, not, _&&_, _||_, cond}
 use mathlib.Core.List.{List, [], _∷_}
@@ -94,5 +94,5 @@ unfoldable pub members : Set → ℕ → ℕ → List ℕ
 members p a zero = []
 members p a (suc n) = cond (p a) (a ∷ members p (suc a) n) (members p (suc a) n)
 
-abbrev pub ListOf : Set → List ℕ → Type 0
-ListOf S vs = Pairwise (λ u v. u < v) vs × ((v : ℕ) → (v among vs → v ∈ S) × (v ∈ S → v among vs))
+abbrev pub ListOf : (ℕ → Type 0) → List ℕ → Type 0
+ListOf P vs = Pairwise (λ u v. u < v) vs × ((v : ℕ) → (v among vs → P v) × (P v → v among vs))

@@ -1,0 +1,26 @@
+// Theorems on the tree of a network, and on what is read from it.
+ghost use Rattle.forest.specs.TreeLaws.{Entries-are-core-numbers, Picking-lists, Vertices-for-k, Vertices-gather-circles};
+
+pub fn vertices_for_k() -> u8
+    ensures { λ _. ⌜ Vertices-for-k ⌝ }
+{
+    0
+}
+
+pub fn entries_are_core_numbers() -> u8
+    ensures { λ _. ⌜ Entries-are-core-numbers ⌝ }
+{
+    0
+}
+
+pub fn vertices_gather_circles() -> u8
+    ensures { λ _. ⌜ Vertices-gather-circles ⌝ }
+{
+    0
+}
+
+pub fn picking_lists() -> u8
+    ensures { λ _. ⌜ Picking-lists ⌝ }
+{
+    0
+}
