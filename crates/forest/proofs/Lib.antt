@@ -9,3 +9,5 @@ pub mod Trees
 pub mod Climbing
 pub mod Picking
 pub mod Steps
+pub mod Vertices
+pub mod BowTie

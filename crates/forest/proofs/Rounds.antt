@@ -261,3 +261,10 @@ rounds-meet-circles-once g o le t str k =
       ended = λ i u m. (in-rounds g o le t str k i u m, left-first g o le t str k i u m);
       few = count-le _ (g .size);
     }
+
+-- who is dropped in a round is who its circle alone would drop
+pub own-of-circle : (g : Graph) → Lawful g → (le : Relation) → Order le → Strict le → (k i : ℕ) → i < rounds g le k → own g le k i ≡ dropped g k (circle g le k i) (key g le k i)
+unfolding circle
+own-of-circle g o le t str k i l =
+    let w = round-weakest g o le t str k i l .0 in
+    own-dropped g o le t str k i (key g le k i) w ∙ round-stays-in-component g o k (left g le k i) (key g le k i) (left-within g o le t str k i) (left-tight g o le t str k i) w .2

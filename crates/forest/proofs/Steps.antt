@@ -13,7 +13,6 @@ use Rattle.theory.specs.Orders.{Order, Strict, Weakest, weakest}
 use Rattle.theory.specs.Peeling.{dropped, peel}
 use Rattle.theory.specs.Sets.{Relation, Set, without, _∈_}
 use Rattle.theory.proofs.Counting.{same-or-less}
-use Rattle.theory.proofs.Dropped.{round-stays-in-component}
 use Rattle.theory.proofs.Orders.{weakest-is, WeakestIs}
 use Rattle.theory.proofs.Own.{innermost-drops-all}
 use Rattle.theory.proofs.Sets.{same-set}
@@ -21,7 +20,7 @@ use Rattle.forest.specs.RoundLaws.{Innermost-by-rounds, Peeling-is-rounds, Rou
 use Rattle.forest.specs.Rounds.{circle, key, left, own, rounds}
 use Rattle.forest.specs.Trees.{span}
 use Rattle.forest.proofs.Climbing.{inner-tells}
-use Rattle.forest.proofs.Rounds.{circle-circle, circle-left, in-rounds, key-weakest, left-next, left-tight, left-within, own-circle, own-dropped, round-weakest, rounds-in, rounds-meet-circles-once, weakest-found}
+use Rattle.forest.proofs.Rounds.{circle-circle, circle-left, in-rounds, key-weakest, left-next, left-within, own-circle, own-dropped, own-of-circle, round-weakest, rounds-in, rounds-meet-circles-once, weakest-found}
 
 pub rounds-by-steps : Rounds-by-steps
 unfolding circle
@@ -79,7 +78,7 @@ innermost-by-rounds g o le t str k i l = (
     c = circle-circle g o le t str k i l
 
     same : own g le k i ≡ dropped g k C (key g le k i)
-    same = let w = round-weakest g o le t str k i l .0 in own-dropped g o le t str k i (key g le k i) w ∙ round-stays-in-component g o k (left g le k i) (key g le k i) (left-within g o le t str k i) (left-tight g o le t str k i) w .2
+    same = own-of-circle g o le t str k i l
 
     whole : own g le k i ≡ C → Innermost (Circle g le k) C
     whole e = innermost-drops-all g o le t str k C (key g le k i) (c .0) (c .1) .1 (sym same ∙ e)

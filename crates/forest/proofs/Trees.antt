@@ -11,15 +11,16 @@ use Rattle.std.proofs.shelf.Tests.{cases-eq, cases-lt, eq-eqb, ne-eqb}
 use Rattle.theory.specs.Cores.{coreNumber, everyone}
 use Rattle.theory.specs.Graphs.{Graph, Lawful}
 use Rattle.theory.specs.Orders.{Order, Strict}
-use Rattle.theory.specs.Sets.{Relation}
+use Rattle.theory.specs.Sets.{_among_, Relation}
 use Rattle.theory.proofs.Cores.{core-within}
+use Rattle.theory.proofs.Lists.{kept-among}
 use Rattle.theory.proofs.Numbers.{number-tells}
 use Rattle.forest.specs.Picking.{ofNumber}
 use Rattle.forest.specs.Rounds.{left, rounds}
 use Rattle.forest.specs.TreeLaws.{Vertices-for-k}
 use Rattle.forest.specs.Trees.{largest, span, tree, treeFor, treesFrom, Vertex, vertexAt}
 use Rattle.forest.proofs.Rounds.{rounds-in}
-use Rattle.forest.proofs.Spans.{kept-span-all, kept-span-none, largest-is}
+use Rattle.forest.proofs.Spans.{among-span, kept-span-all, kept-span-none, largest-is, span-among}
 
 module _ (g : Graph) (le : Relation) where
   of-same : (k : ℕ) → ofNumber k (treeFor g le k) ≡ treeFor g le k
@@ -73,3 +74,20 @@ module _ (g : Graph) (o : Lawful g) (le : Relation) (t : Order le) (str : Strict
 pub vertices-for-k : Vertices-for-k
 unfolding treeFor
 vertices-for-k g o le t str k l = of-tree g o le t str k l
+
+pub vertex-number : (g : Graph) (le : Relation) (k i : ℕ) → vertexAt g le k i .k ≡ k
+unfolding vertexAt
+vertex-number g le k i = refl
+
+module _ (g : Graph) (le : Relation) where
+  pub among-tree : (k : ℕ) (x : Vertex) → x among treeFor g le k → (i : ℕ) × (i < rounds g le k) × (x ≡ vertexAt g le k i) × (x .k ≡ k)
+  unfolding treeFor
+  among-tree k x m = let (i, _, b, e) = among-span (vertexAt g le k) 0 (rounds g le k) x m in (i, omega arith, e, ap (λ x. x .k) e ∙ vertex-number g le k i)
+
+  pub tree-among : (k i : ℕ) → i < rounds g le k → vertexAt g le k i among treeFor g le k
+  unfolding treeFor
+  tree-among k i b = span-among (vertexAt g le k) 0 (rounds g le k) i (omega arith) (omega arith)
+
+pub of-among : (k : ℕ) (vs : List Vertex) (x : Vertex) → x among ofNumber k vs → x among vs
+unfolding ofNumber
+of-among k vs x m = kept-among (λ x. eqb (x .k) k) vs x m .0

@@ -20,20 +20,20 @@ use Rattle.theory.proofs.Lists.{all-among, has-among}
 use Rattle.theory.proofs.Numbers.{core-number-is-greatest}
 use Rattle.theory.proofs.Rankings.{tie-broken}
 
-tied : Lawful bowTie
-tied = data-is-lawful .0 5 _
+pub bow-tie-lawful : Lawful bowTie
+bow-tie-lawful = data-is-lawful .0 5 _
 
-points : StrictOrder byPoints
-points = tie-broken _ (data-is-lawful .1 _)
+pub points-order : StrictOrder byPoints
+points-order = tie-broken _ (data-is-lawful .1 _)
 
-apart-pairs : Lawful pairs
-apart-pairs = data-is-lawful .0 4 _
+pub pairs-lawful : Lawful pairs
+pairs-lawful = data-is-lawful .0 4 _
 
-marks : StrictOrder byMarks
-marks = tie-broken _ (data-is-lawful .1 _)
+pub marks-order : StrictOrder byMarks
+marks-order = tie-broken _ (data-is-lawful .1 _)
 
 bow-tie : (k r : ℕ) (ch : Choice) → Lists bowTie byPoints k r ch (listing bowTie byPoints k r ch)
-bow-tie k r ch = listing-is-right bowTie tied byPoints (points .0) (points .1) k r ch .0
+bow-tie k r ch = listing-is-right bowTie bow-tie-lawful byPoints (points-order .0) (points-order .1) k r ch .0
 
 one-every : listing bowTie byPoints 1 9 every ≡ (0, 0 ∷ 1 ∷ 2 ∷ 3 ∷ 4 ∷ []) ∷ (2, 1 ∷ 2 ∷ 3 ∷ 4 ∷ []) ∷ (4, 3 ∷ 4 ∷ []) ∷ []
 unfolding computed
@@ -64,7 +64,7 @@ unfolding computed
 pairs-computed = refl
 
 pub pairs-listed : Pairs-listed
-pairs-listed = rw pairs-computed at (listing-is-right pairs apart-pairs byMarks (marks .0) (marks .1) 1 9 every .0)
+pairs-listed = rw pairs-computed at (listing-is-right pairs pairs-lawful byMarks (marks-order .0) (marks-order .1) 1 9 every .0)
 
 pub bow-tie-core-numbers : Bow-tie-core-numbers
 unfolding computed
@@ -81,14 +81,14 @@ unfolding computed
 triangle-is-no-circle c =
     let S : Set = these (0 ∷ 1 ∷ 2 ∷ []) in
     let we : Weakest byPoints S 0 = (refl, λ v m. all-among (λ v. byPoints 0 v ≡ true) (0 ∷ 1 ∷ 2 ∷ []) v (refl, (refl, (refl, tt))) (has-among v (0 ∷ 1 ∷ 2 ∷ []) .0 m)) in
-    let e : S ≡ circleAt bowTie byPoints 2 0 = circle-known bowTie tied byPoints (points .0) (points .1) 2 S 0 c we .1 in
+    let e : S ≡ circleAt bowTie byPoints 2 0 = circle-known bowTie bow-tie-lawful byPoints (points-order .0) (points-order .1) 2 S 0 c we .1 in
     both-ways (S 3) refl (ap (λ X. X 3) e ∙ refl)
 
 pub two-parts-are-no-circle : Two-parts-are-no-circle
 unfolding computed
 two-parts-are-no-circle c =
     let S : Set = these (0 ∷ 1 ∷ 2 ∷ 3 ∷ []) in
-    both-ways (component pairs S 0 2) refl (component-greatest pairs apart-pairs S 0 (omega arith) refl S (λ _ m. m) (c .connected) refl 2 refl)
+    both-ways (component pairs S 0 2) refl (component-greatest pairs pairs-lawful S 0 (omega arith) refl S (λ _ m. m) (c .connected) refl 2 refl)
 
 few-left : degree bowTie (these (1 ∷ 2 ∷ 3 ∷ 4 ∷ [])) 1 ≡ 1
 unfolding computed

@@ -2,7 +2,7 @@
 use mathlib.Core.Path.{ap, refl, subst, sym, _∙_, _≡_}
 use mathlib.Core.Bool.{_&&_, and-false, and-true, Bool, cond, false, not, true}
 use mathlib.Core.Logic.{inl, inr, _≢_, _⊎_}
-use mathlib.Core.List.{[], List, map, _∷_}
+use mathlib.Core.List.{_++_, [], List, map, _∷_}
 use Prim.Native.Nat.{_+_, _<_, suc, zero, ℕ}
 use native.Mathlib.Omega.{arith}
 use lib.Dec.{eqb}
@@ -52,6 +52,10 @@ all-among P [] x a m = absurd m
 all-among P (y ∷ ys) x a (inl e) = rw e (a .0)
 all-among P (y ∷ ys) x a (inr m) = all-among P ys x (a .1) m
 
+pub all-from : {A : Type 0} (P : A → Type 0) (xs : List A) → ((x : A) → x among xs → P x) → All P xs
+all-from P [] f = tt
+all-from P (x ∷ xs) f = (f x (inl refl), all-from P xs (λ y m. f y (inr m)))
+
 -- lists in order with the same elements are the same
 pub pairwise-same : {A : Type 0} (R : A → A → Type 0) → ((x y : A) → R x y → R y x → ⊥) → (xs ys : List A) → Pairwise R xs → Pairwise R ys → ((v : A) → v among xs → v among ys) → ((v : A) → v among ys → v among xs) → xs ≡ ys
 pairwise-same R one-way [] [] p q f h = refl
@@ -93,6 +97,16 @@ kept-among p (y ∷ ys) x m = go (p y) refl m (kept-among p ys x)
     go true e (inr n) ih = let (a, q) = ih n in (inr a, q)
     go false e n ih = let (a, q) = ih n in (inr a, q)
 
+pub among-append : {A : Type 0} (xs ys : List A) (x : A) → x among (xs ++ ys) → (x among xs) ⊎ (x among ys)
+among-append [] ys x m = inr m
+among-append (y ∷ xs) ys x (inl e) = inl (inl e)
+among-append (y ∷ xs) ys x (inr m) = elim (among-append xs ys x m) [ inl n ↦ inl (inr n) | inr n ↦ inr n ]
+
+pub pairwise-append : {A : Type 0} (R : A → A → Type 0) (xs ys : List A) → Pairwise R xs → Pairwise R ys → ((x y : A) → x among xs → y among ys → R x y) → Pairwise R (xs ++ ys)
+pairwise-append R [] ys p q h = q
+pairwise-append R (x ∷ xs) ys p q h =
+    (all-from (R x) (xs ++ ys) (λ y m. elim (among-append xs ys y m) [ inl n ↦ all-among (R x) xs y (p .0) n | inr n ↦ h x y (inl refl) n ]), pairwise-append R xs ys (p .1) q (λ a b m n. h a b (inr m) n))
+
 pub among-map : {A B : Type 0} (f : A → B) (xs : List A) (x : A) → x among xs → f x among map f xs
 among-map f [] x m = absurd m
 among-map f (y ∷ ys) x (inl e) = inl (ap f e)
@@ -106,10 +120,6 @@ map-among f (x ∷ xs) y (inr m) = let (z, n, e) = map-among f xs y m in (z, inr
 pub map-same : {A B : Type 0} (f h : A → B) (xs : List A) → ((x : A) → x among xs → f x ≡ h x) → map f xs ≡ map h xs
 map-same f h [] e = refl
 map-same f h (x ∷ xs) e = let a : f x ≡ h x = e x (inl refl) in let b : map f xs ≡ map h xs = map-same f h xs (λ y m. e y (inr m)) in cc
-
-pub all-from : {A : Type 0} (P : A → Type 0) (xs : List A) → ((x : A) → x among xs → P x) → All P xs
-all-from P [] f = tt
-all-from P (x ∷ xs) f = (f x (inl refl), all-from P xs (λ y m. f y (inr m)))
 
 all-both : {A : Type 0} (P Q : A → Type 0) (xs : List A) → All P xs → All Q xs → All (λ x. P x × Q x) xs
 all-both P Q [] a b = tt
