@@ -2,30 +2,32 @@
 use mathlib.Core.Path.{ap, refl, subst, sym, _∙_, _≡_}
 use mathlib.Core.Bool.{_&&_, Bool, false, true}
 use mathlib.Core.Logic.{inl, inr, _⊎_}
-use mathlib.Core.List.{List}
+use mathlib.Core.List.{List, map}
 use mathlib.Core.Option.{none, Option, some}
 use Prim.Native.Nat.{_<_, suc, zero, ℕ, _≤_}
 use native.Mathlib.Omega.{arith}
 use lib.Dec.{eqb}
 use lib.ListN.{length}
+use Rattle.std.specs.Iters.{counting}
+use Rattle.std.proofs.shelf.Counted.{length-map-counting}
 use Rattle.std.proofs.shelf.Tests.{and-from, and-parts, both-ways, cases-lt, eq-eqb, eqb-true, or-cases, or-left, or-right}
 use Rattle.theory.specs.Circles.{Circle, Innermost}
 use Rattle.theory.specs.Graphs.{Graph, Lawful}
 use Rattle.theory.specs.Orders.{Order, Strict}
-use Rattle.theory.specs.Sets.{has, members, Relation, _∈_}
+use Rattle.theory.specs.Sets.{anyOf, has, members, Relation, _∈_}
 use Rattle.theory.proofs.Circles.{circle-weakest, group-of}
-use Rattle.theory.proofs.Lists.{has-among}
+use Rattle.theory.proofs.Lists.{any-of, has-among}
 use Rattle.theory.proofs.Members.{among-members, members-among}
 use Rattle.theory.proofs.Orders.{le-self}
 use Rattle.theory.proofs.Sets.{same-set}
 use Rattle.forest.specs.Holders.{holder, Reaches, there, up}
-use Rattle.forest.specs.Picking.{anyOf, climbs, gathered, underOf}
+use Rattle.forest.specs.Picking.{climbs, gathered, underOf}
 use Rattle.forest.specs.Rounds.{circle, key, own, round, rounds}
 use Rattle.forest.specs.TreeLaws.{Vertices-gather-circles}
-use Rattle.forest.specs.Trees.{named, span, treeFor, Vertex, vertexAt}
+use Rattle.forest.specs.Trees.{named, treeFor, Vertex, vertexAt}
 use Rattle.forest.proofs.Holders.{circle-round, holder-some, key-held, nest-key, reach-key, reach-last, reach-sub, reached, reaching, round-less}
+use Rattle.forest.proofs.Places.{among-placed, placed-among, under-placed}
 use Rattle.forest.proofs.Rounds.{circle-circle, circle-complete, keys-rise, left-first, left-within, own-left, own-round, round-own}
-use Rattle.forest.proofs.Spans.{among-span, any-of, length-span, span-among, under-span}
 use Rattle.forest.proofs.Trees.{of-tree}
 
 module _ (g : Graph) (o : Lawful g) (le : Relation) (t : Order le) (str : Strict le) (k : ℕ) where
@@ -42,7 +44,7 @@ module _ (g : Graph) (o : Lawful g) (le : Relation) (t : Order le) (str : Strict
 
   pub under-is : (i : ℕ) → i < rounds g le k → underOf (treeFor g le k) (key g le k i) ≡ named (key g le k) (holder g le k i)
   unfolding treeFor vertexAt
-  under-is i l = under-span (vertexAt g le k) 0 (rounds g le k) i (omega arith) (omega arith) (λ j _ h e. let s = same-key j i (omega arith) l e in omega arith)
+  under-is i l = under-placed (vertexAt g le k) 0 (rounds g le k) i (omega arith) (omega arith) (λ j _ h e. let s = same-key j i (omega arith) l e in omega arith)
 
   pub climb-reach : (n a i : ℕ) → a < rounds g le k → i < rounds g le k → climbs (treeFor g le k) n (key g le k a) (key g le k i) ≡ true → Reaches g le k a i
   unfolding climbs
@@ -71,7 +73,7 @@ module _ (g : Graph) (o : Lawful g) (le : Relation) (t : Order le) (str : Strict
   gathers i l = same-set _ _ fro to
     where
       us : List Vertex
-      us = span (vertexAt g le k) 0 (rounds g le k)
+      us = map (vertexAt g le k) (counting 0 (rounds g le k))
 
       test : ℕ → Vertex → Bool
       test v x = has v (x .persons) && climbs us (length us) (x .weakest) (key g le k i)
@@ -79,9 +81,9 @@ module _ (g : Graph) (o : Lawful g) (le : Relation) (t : Order le) (str : Strict
       fro : (v : ℕ) → anyOf (test v) us ≡ true → v ∈ circle g le k i
       fro v h =
           let (x, m, q) = any-of (test v) us .0 h in
-          let (a, _, b, e) = among-span (vertexAt g le k) 0 (rounds g le k) x m in
+          let (a, _, b, e) = among-placed (vertexAt g le k) 0 (rounds g le k) x m in
           let q′ : test v (vertexAt g le k a) ≡ true = subst (λ x. test v x ≡ true) e q in
-          let (p, c) = and-parts (has v (members (own g le k a) 0 (g .size))) _ q′ in
+          let (p, c) = and-parts (has v (members (own g le k a) (g .size))) _ q′ in
           let w : v ∈ own g le k a = among-members (own g le k a) 0 (g .size) v (has-among v _ .0 p) .2 in
           let r : Reaches g le k a i = climb-reach (length us) a i (omega arith) l c in
           reached g o le t str k i v (left-first g o le t str k a v (own-left g o le t str k a v w)) (subst (λ z. Reaches g le k z i) (sym (own-round g o le t str k a v w)) r)
@@ -93,8 +95,8 @@ module _ (g : Graph) (o : Lawful g) (le : Relation) (t : Order le) (str : Strict
           let b : a < rounds g le k = round-less g o le t str k v c in
           let w : v ∈ own g le k a = round-own g o le t str k v c in
           let s : v < g .size = left-within g o le t str k a v (own-left g o le t str k a v w) in
-          any-of (test v) us .1 (vertexAt g le k a) (span-among (vertexAt g le k) 0 (rounds g le k) a (omega arith) (omega arith))
-          (and-from _ _ (has-among v _ .1 (members-among (own g le k a) 0 (g .size) v (omega arith) (omega arith) w)) (reach-climb (length us) a i (omega (arith, length-span (vertexAt g le k) 0 (rounds g le k))) b (reaching g o le t str k i v m)))
+          any-of (test v) us .1 (vertexAt g le k a) (placed-among (vertexAt g le k) 0 (rounds g le k) a (omega arith) (omega arith))
+          (and-from _ _ (has-among v _ .1 (members-among (own g le k a) 0 (g .size) v (omega arith) (omega arith) w)) (reach-climb (length us) a i (omega (arith, length-map-counting (vertexAt g le k) 0 (rounds g le k))) b (reaching g o le t str k i v m)))
 
   -- innermost: no round has it as its holder
   pub inner-tells : (i : ℕ) → i < rounds g le k → (Innermost (Circle g le k) (circle g le k i) → (j : ℕ) → j < rounds g le k → holder g le k j ≡ some i → ⊥) × (((j : ℕ) → j < rounds g le k → holder g le k j ≡ some i → ⊥) → Innermost (Circle g le k) (circle g le k i))

@@ -1,4 +1,4 @@
-pub mod Spans
+pub mod Places
 pub mod Rounds
 pub mod Holders
 pub mod Joining

@@ -1,10 +1,11 @@
 -- Rounds by steps, peeling by rounds, and three tests of innermost.
 use mathlib.Core.Path.{ap, refl, sym, _∙_, _≡_}
 use mathlib.Core.Logic.{inl, inr}
-use mathlib.Core.List.{[], List, _∷_}
+use mathlib.Core.List.{[], List, map, _∷_}
 use mathlib.Core.Option.{none, Option, some}
 use Prim.Native.Nat.{_+_, suc, zero, ℕ, _≤_}
 use native.Mathlib.Omega.{arith}
+use Rattle.std.specs.Iters.{counting}
 use Rattle.std.proofs.shelf.Tests.{cases-lt}
 use Rattle.theory.specs.Circles.{Circle, Innermost}
 use Rattle.theory.specs.Cores.{component, core}
@@ -18,7 +19,6 @@ use Rattle.theory.proofs.Own.{innermost-drops-all}
 use Rattle.theory.proofs.Sets.{same-set}
 use Rattle.forest.specs.RoundLaws.{Innermost-by-rounds, Peeling-is-rounds, Rounds-by-steps}
 use Rattle.forest.specs.Rounds.{circle, key, left, own, rounds}
-use Rattle.forest.specs.Trees.{span}
 use Rattle.forest.proofs.Climbing.{inner-tells}
 use Rattle.forest.proofs.Rounds.{circle-circle, circle-left, in-rounds, key-weakest, left-next, left-within, own-circle, own-dropped, own-of-circle, round-weakest, rounds-in, rounds-meet-circles-once, weakest-found}
 
@@ -48,19 +48,20 @@ module _ (g : Graph) (o : Lawful g) (le : Relation) (t : Order le) (str : Strict
   f : ℕ → ℕ × Set
   f i = (key g le k i, circle g le k i)
 
-  peel-span : (n m i : ℕ) → i + n ≡ rounds g le k → n ≤ m → peel g le k m (left g le k i) ≡ span f i n
-  unfolding span f circle
-  peel-span zero m i e l = peel-none (left g le k i) m (λ u x. omega (arith, in-rounds g o le t str k i u x))
-  peel-span (suc n) zero i e l = absurd (omega arith)
-  peel-span (suc n) (suc m) i e l =
+  peel-placed : (n m i : ℕ) → i + n ≡ rounds g le k → n ≤ m → peel g le k m (left g le k i) ≡ map f (counting i n)
+  unfolding f circle
+  peel-placed zero m i e l = peel-none (left g le k i) m (λ u x. omega (arith, in-rounds g o le t str k i u x))
+  peel-placed (suc n) zero i e l = absurd (omega arith)
+  peel-placed (suc n) (suc m) i e l =
       let we = round-weakest g o le t str k i (omega arith) in
+      let next-place : suc i ≡ i + 1 = omega arith in
       let one = peel-some (left g le k i) m (key g le k i) (weakest-found g o le t str k (left g le k i) (left-within g o le t str k i) (key g le k i) we) in
-      let two : peel g le k m (core g k (without (left g le k i) (key g le k i))) ≡ span (λ i. (key g le k i, component g (left g le k i) (key g le k i))) (suc i) n = ap (peel g le k m) (sym (left-next g o le t str k i (key g le k i) (we .0))) ∙ peel-span n m (suc i) (omega arith) (omega arith) in
+      let two : peel g le k m (core g k (without (left g le k i) (key g le k i))) ≡ map (λ i. (key g le k i, component g (left g le k i) (key g le k i))) (counting (i + 1) n) = ap (peel g le k m) (sym (left-next g o le t str k i (key g le k i) (we .0))) ∙ peel-placed n m (suc i) (omega arith) (omega arith) ∙ ap (λ z. map (λ i. (key g le k i, component g (left g le k i) (key g le k i))) (counting z n)) next-place in
       one ∙ ap (λ xs. (key g le k i, component g (left g le k i) (key g le k i)) ∷ xs) two
 
 pub peeling-is-rounds : Peeling-is-rounds
 unfolding left f
-peeling-is-rounds g o le t str k = peel-span g o le t str k (rounds g le k) (g .size) 0 (omega arith) (rounds-meet-circles-once g o le t str k .few)
+peeling-is-rounds g o le t str k = peel-placed g o le t str k (rounds g le k) (g .size) 0 (omega arith) (rounds-meet-circles-once g o le t str k .few)
 
 pub innermost-by-rounds : Innermost-by-rounds
 unfolding circle

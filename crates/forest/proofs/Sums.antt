@@ -12,17 +12,12 @@ use Rattle.theory.specs.Orders.{Order, Strict}
 use Rattle.theory.specs.Sets.{bit, count, Relation, Set, total, _∈_}
 use Rattle.theory.proofs.Counting.{count-none, count-one}
 use Rattle.theory.proofs.Sets.{false-since}
-use Rattle.theory.proofs.Totals.{rows-columns, total-row, total-same, total-zero}
+use Rattle.theory.proofs.Totals.{count-total, rows-columns, total-row, total-same, total-zero}
 use Rattle.forest.specs.HolderLaws.{Adding-up-is-whole, Sizes-add-up}
 use Rattle.forest.specs.Holders.{holder, is, totalFrom}
 use Rattle.forest.specs.Rounds.{circle, key, own, rounds}
 use Rattle.forest.proofs.Holders.{circle-round, holder-some, key-held, nest, parts}
 use Rattle.forest.proofs.Rounds.{own-circle, own-round}
-
-pub count-total : (p : Set) (n : ℕ) → total (λ v. bit (p v)) n ≡ count p n
-unfolding total count
-count-total p zero = refl
-count-total p (suc n) = omega (arith, count-total p n)
 
 -- if each that passes p passes q, or R at one number, the count is a sum
 sum-of-parts : (p q : Set) (R : ℕ → Set) (m n : ℕ) → ((v : ℕ) → bit (p v) ≡ bit (q v) + count (λ i. R i v) m) → count p n ≡ count q n + total (λ i. count (R i) n) m

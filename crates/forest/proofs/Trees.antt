@@ -1,10 +1,11 @@
 -- The vertices for k are those of the rounds for k.
 use mathlib.Core.Path.{ap, refl, subst, sym, _∙_, _≡_}
 use mathlib.Core.Logic.{inl, inr, _≢_, _⊎_}
-use mathlib.Core.List.{_++_, [], List}
+use mathlib.Core.List.{_++_, [], List, map}
 use Prim.Native.Nat.{_+_, _<_, suc, zero, ℕ, _≤_}
 use native.Mathlib.Omega.{arith}
 use lib.Dec.{eqb}
+use Rattle.std.specs.Iters.{counting}
 use Rattle.std.proofs.shelf.Elements.{kept-by-append}
 use Rattle.std.proofs.shelf.Lists.{append-nil}
 use Rattle.std.proofs.shelf.Tests.{cases-eq, cases-lt, eq-eqb, ne-eqb}
@@ -18,18 +19,18 @@ use Rattle.theory.proofs.Numbers.{number-tells}
 use Rattle.forest.specs.Picking.{ofNumber}
 use Rattle.forest.specs.Rounds.{left, rounds}
 use Rattle.forest.specs.TreeLaws.{Vertices-for-k}
-use Rattle.forest.specs.Trees.{largest, span, tree, treeFor, treesFrom, Vertex, vertexAt}
+use Rattle.forest.specs.Trees.{largest, tree, treeFor, treesFrom, Vertex, vertexAt}
+use Rattle.forest.proofs.Places.{among-placed, kept-placed-all, kept-placed-none, largest-is, placed-among}
 use Rattle.forest.proofs.Rounds.{rounds-in}
-use Rattle.forest.proofs.Spans.{among-span, kept-span-all, kept-span-none, largest-is, span-among}
 
 module _ (g : Graph) (le : Relation) where
   of-same : (k : ℕ) → ofNumber k (treeFor g le k) ≡ treeFor g le k
   unfolding ofNumber treeFor vertexAt
-  of-same k = kept-span-all (vertexAt g le k) (λ x. eqb (x .k) k) 0 (rounds g le k) (λ i. eq-eqb k k refl)
+  of-same k = kept-placed-all (vertexAt g le k) (λ x. eqb (x .k) k) 0 (rounds g le k) (λ i. eq-eqb k k refl)
 
   of-other : (k j : ℕ) → j ≢ k → ofNumber k (treeFor g le j) ≡ []
   unfolding ofNumber treeFor vertexAt
-  of-other k j d = kept-span-none (vertexAt g le j) (λ x. eqb (x .k) k) 0 (rounds g le j) (λ i. ne-eqb j k d)
+  of-other k j d = kept-placed-none (vertexAt g le j) (λ x. eqb (x .k) k) 0 (rounds g le j) (λ i. ne-eqb j k d)
 
   of-append : (k : ℕ) (xs ys : List Vertex) → ofNumber k (xs ++ ys) ≡ ofNumber k xs ++ ofNumber k ys
   unfolding ofNumber
@@ -52,8 +53,8 @@ module _ (g : Graph) (le : Relation) where
 module _ (g : Graph) (o : Lawful g) (le : Relation) (t : Order le) (str : Strict le) where
   -- beyond the largest core number there is no circle
   no-tree : (k : ℕ) → largest (coreNumber g) (g .size) < k → treeFor g le k ≡ []
-  unfolding treeFor span left
-  no-tree k l = ap (span (vertexAt g le k) 0) z
+  unfolding treeFor left
+  no-tree k l = ap (λ n. map (vertexAt g le k) (counting 0 n)) z
     where
       none-there : (0 < rounds g le k) → ⊥
       none-there h =
@@ -82,11 +83,11 @@ vertex-number g le k i = refl
 module _ (g : Graph) (le : Relation) where
   pub among-tree : (k : ℕ) (x : Vertex) → x among treeFor g le k → (i : ℕ) × (i < rounds g le k) × (x ≡ vertexAt g le k i) × (x .k ≡ k)
   unfolding treeFor
-  among-tree k x m = let (i, _, b, e) = among-span (vertexAt g le k) 0 (rounds g le k) x m in (i, omega arith, e, ap (λ x. x .k) e ∙ vertex-number g le k i)
+  among-tree k x m = let (i, _, b, e) = among-placed (vertexAt g le k) 0 (rounds g le k) x m in (i, omega arith, e, ap (λ x. x .k) e ∙ vertex-number g le k i)
 
   pub tree-among : (k i : ℕ) → i < rounds g le k → vertexAt g le k i among treeFor g le k
   unfolding treeFor
-  tree-among k i b = span-among (vertexAt g le k) 0 (rounds g le k) i (omega arith) (omega arith)
+  tree-among k i b = placed-among (vertexAt g le k) 0 (rounds g le k) i (omega arith) (omega arith)
 
 pub of-among : (k : ℕ) (vs : List Vertex) (x : Vertex) → x among ofNumber k vs → x among vs
 unfolding ofNumber

@@ -2,11 +2,12 @@
 use mathlib.Core.Path.{ap, refl, subst, sym, _∙_, _≡_}
 use mathlib.Core.Bool.{false}
 use mathlib.Core.Logic.{inl, inr, _⊎_}
-use mathlib.Core.List.{List}
+use mathlib.Core.List.{List, map}
 use mathlib.Core.Option.{none, Option, some}
 use Prim.Native.Nat.{_<_, suc, zero, ℕ, _≤_}
 use native.Mathlib.Omega.{arith}
 use lib.Dec.{eqb}
+use Rattle.std.specs.Iters.{counting}
 use Rattle.std.specs.Orderings.{Decides}
 use Rattle.std.proofs.shelf.Tests.{both-ways, eq-eqb, eqb-true}
 use Rattle.std.proofs.shelf.Ways.{tells}
@@ -15,22 +16,22 @@ use Rattle.theory.specs.Cores.{coreNumber}
 use Rattle.theory.specs.Graphs.{Graph, Lawful}
 use Rattle.theory.specs.Listing.{every}
 use Rattle.theory.specs.Orders.{Below, Order, Strict, Weakest, weakest}
-use Rattle.theory.specs.Sets.{_among_, ListOf, Pairwise, Relation, Set, _∈_}
+use Rattle.theory.specs.Sets.{_among_, anyOf, ListOf, Pairwise, Relation, Set, _∈_}
 use Rattle.theory.proofs.Circles.{circle-weakest, group-of}
-use Rattle.theory.proofs.Lists.{all-among, all-from, among-append, pairwise-append, pairwise-same}
+use Rattle.theory.proofs.Lists.{all-among, all-from, among-append, any-of, pairwise-append, pairwise-same}
 use Rattle.theory.proofs.Members.{list-same, members-rise}
 use Rattle.theory.proofs.Own.{dropped-are-own}
 use Rattle.theory.proofs.Sets.{false-since}
 use Rattle.forest.specs.HolderLaws.{Held}
 use Rattle.forest.specs.Holders.{holder, HolderOf}
-use Rattle.forest.specs.Picking.{anyOf, ofNumber, underOf}
+use Rattle.forest.specs.Picking.{ofNumber, underOf}
 use Rattle.forest.specs.Rounds.{circle, key, own, rounds}
 use Rattle.forest.specs.TreeLaws.{Holder-is-found, Tree-is-right}
-use Rattle.forest.specs.Trees.{largest, named, span, tree, treeFor, TreeOf, treesFrom, Vertex, vertexAt, VertexOf}
+use Rattle.forest.specs.Trees.{largest, named, tree, treeFor, TreeOf, treesFrom, Vertex, vertexAt, VertexOf}
 use Rattle.forest.proofs.Climbing.{under-is}
 use Rattle.forest.proofs.Holders.{holders-are-smallest, larger, nest-key}
+use Rattle.forest.proofs.Places.{among-placed, placed-among, placed-pairwise}
 use Rattle.forest.proofs.Rounds.{circle-circle, circle-complete, keys-rise, left-within, own-left, own-of-circle}
-use Rattle.forest.proofs.Spans.{among-span, any-of, span-among, span-pairwise}
 use Rattle.forest.proofs.Trees.{among-tree, of-among, of-tree, tree-among, vertex-number}
 
 module _ (g : Graph) (o : Lawful g) (le : Relation) (t : Order le) (str : Strict le) (k : ℕ) where
@@ -112,7 +113,7 @@ module _ (g : Graph) (o : Lawful g) (le : Relation) (t : Order le) (str : Strict
   unfolding treesFrom treeFor vertexAt Before
   trees-rise a zero = tt
   trees-rise a (suc n) =
-      pairwise-append (Before le) (treeFor g le a) (treesFrom g le (suc a) n) (span-pairwise (vertexAt g le a) (Before le) 0 (rounds g le a) (λ i j l b. inr (refl, keys-rise g o le t str a i j l (omega arith)))) (trees-rise (suc a) n)
+      pairwise-append (Before le) (treeFor g le a) (treesFrom g le (suc a) n) (placed-pairwise (vertexAt g le a) (Before le) 0 (rounds g le a) (λ i j l b. inr (refl, keys-rise g o le t str a i j l (omega arith)))) (trees-rise (suc a) n)
       (λ x y m m′. let (i, b, e, q) = among-tree g le a x m in let later = among-trees (suc a) n y m′ .0 in inl (omega arith))
 
   pub tree-of : TreeOf g le (tree g le)
@@ -155,15 +156,15 @@ module _ (g : Graph) (o : Lawful g) (le : Relation) (t : Order le) (str : Strict
   unfolding treeFor vertexAt
   decides = (
     (λ h.
-        let (x, m, q) = any-of (λ x. eqb (x .weakest) w) (span (vertexAt g le k) 0 (rounds g le k)) .0 h in
-        let (i, _, b, e) = among-span (vertexAt g le k) 0 (rounds g le k) x m in
+        let (x, m, q) = any-of (λ x. eqb (x .weakest) w) (map (vertexAt g le k) (counting 0 (rounds g le k))) .0 h in
+        let (i, _, b, e) = among-placed (vertexAt g le k) 0 (rounds g le k) x m in
         let r : key g le k i ≡ w = sym (ap (λ x. x .weakest) e) ∙ eqb-true (x .weakest) w q in
         let c = circle-circle g o le t str k i (omega arith) in
         (circle g le k i, c .0, subst (Weakest le (circle g le k i)) r (c .1))),
     (λ y.
         let (S, c, we) = y in
         let (i, l, e, s) = circle-complete g o le t str k S w c we in
-        any-of (λ x. eqb (x .weakest) w) (span (vertexAt g le k) 0 (rounds g le k)) .1 (vertexAt g le k i) (span-among (vertexAt g le k) 0 (rounds g le k) i (omega arith) (omega arith)) (eq-eqb (key g le k i) w e)),
+        any-of (λ x. eqb (x .weakest) w) (map (vertexAt g le k) (counting 0 (rounds g le k))) .1 (vertexAt g le k i) (placed-among (vertexAt g le k) 0 (rounds g le k) i (omega arith) (omega arith)) (eq-eqb (key g le k i) w e)),
   )
 
 Looked : Graph → Relation → ℕ → ℕ → List Vertex → Type 0

@@ -7,18 +7,19 @@ use mathlib.Core.Bool.{false}
 use mathlib.Core.List.{List, [], _∷_}
 use mathlib.Core.Option.{Option, some, none}
 use Prim.Native.Nat.{ℕ}
+use Rattle.theory.specs.Sets.{anyOf}
 use Rattle.theory.specs.Listing.{every, innermost}
 use Rattle.theory.specs.Example.{bowTie, byPoints, computed}
 use Rattle.forest.specs.Rounds.{next, left, key, own, circle, rounds, round}
 use Rattle.forest.specs.Holders.{lastBelow, holder, is, totalFrom}
-use Rattle.forest.specs.Trees.{Vertex, TreeOf, span, vertexAt, treeFor, treesFrom, largest, tree, entries}
-use Rattle.forest.specs.Picking.{anyOf, ofNumber, underOf, climbs, gathered, choose, pick}
+use Rattle.forest.specs.Trees.{Vertex, TreeOf, vertexAt, treeFor, treesFrom, largest, tree, entries}
+use Rattle.forest.specs.Picking.{ofNumber, underOf, climbs, gathered, choose, pick}
 
 abbrev pub vertex : ℕ → ℕ → Option ℕ → List ℕ → Vertex
 vertex k w h ps = record { k = k; weakest = w; under = h; persons = ps }
 
 unfoldable pub grown : ℕ
-unfolding computed next left key own circle rounds round lastBelow holder totalFrom span vertexAt treeFor treesFrom largest tree entries anyOf ofNumber underOf climbs gathered choose pick
+unfolding computed next left key own circle rounds round lastBelow holder totalFrom vertexAt treeFor treesFrom largest tree entries ofNumber underOf climbs gathered choose pick
 grown = 0
 
 abbrev pub bowTieVertices : List Vertex

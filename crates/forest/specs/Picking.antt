@@ -1,5 +1,4 @@
 -- What is read from a tree: the vertices for k, the circle of a vertex, its holder, the listing. Assumes nothing.
---     anyOf p xs                  does some element pass
 --     ofNumber k vs               the vertices for k
 --     underOf vs w                the holder's name in the first vertex named w
 --     climbs vs n x w             do at most n steps from x to its holder come to w
@@ -13,14 +12,10 @@ use Prim.Native.Nat.{ℕ, zero, suc}
 use lib.Dec.{eqb}
 use lib.ListN.{length}
 use Rattle.std.specs.shelf.Lists.{kept-by}
-use Rattle.theory.specs.Sets.{Set, has, members}
+use Rattle.theory.specs.Sets.{Set, anyOf, has, members}
 use Rattle.theory.specs.Listing.{Choice, every, innermost, Entry, last}
 use Rattle.forest.specs.Holders.{is}
 use Rattle.forest.specs.Trees.{Vertex}
-
-unfoldable pub anyOf : {A : Type 0} → (A → Bool) → List A → Bool
-anyOf p [] = false
-anyOf p (x ∷ xs) = p x || anyOf p xs
 
 unfoldable pub ofNumber : ℕ → List Vertex → List Vertex
 ofNumber k vs = kept-by (λ x. eqb (x .k) k) vs
@@ -41,4 +36,4 @@ choose every vs = vs
 choose innermost vs = kept-by (λ x. not (anyOf (λ y. is (x .weakest) (y .under)) vs)) vs
 
 unfoldable pub pick : ℕ → List Vertex → ℕ → ℕ → Choice → List Entry
-pick n vs k r choice = map (λ w. (w, members (gathered (ofNumber k vs) w) 0 n)) (last r (map (λ x. x .weakest) (choose choice (ofNumber k vs))))
+pick n vs k r choice = map (λ w. (w, members (gathered (ofNumber k vs) w) n)) (last r (map (λ x. x .weakest) (choose choice (ofNumber k vs))))

@@ -5,8 +5,10 @@
 --     Peeling-is-rounds           peeling is the rounds in order
 --     Innermost-by-rounds         a circle is innermost if it is dropped whole, if as many are dropped as it has members, and if it is no circle's holder
 use mathlib.Core.Path.{_≡_}
+use mathlib.Core.List.{map}
 use mathlib.Core.Option.{some}
 use Prim.Native.Nat.{ℕ, suc, _≤_, _<_}
+use Rattle.std.specs.Iters.{counting}
 use Rattle.theory.specs.Sets.{Set, Relation, _∈_, _⊆_, without, count}
 use Rattle.theory.specs.Graphs.{Graph, Lawful}
 use Rattle.theory.specs.Orders.{Order, Strict, Below, Weakest}
@@ -15,7 +17,6 @@ use Rattle.theory.specs.Cores.{everyone, core, component}
 use Rattle.theory.specs.Peeling.{dropped, peel}
 use Rattle.forest.specs.Rounds.{left, key, own, circle, rounds, round}
 use Rattle.forest.specs.Holders.{holder}
-use Rattle.forest.specs.Trees.{span}
 
 pub record Rounded (g : Graph) (le : Relation) (k : ℕ) : Type 0 where
   -- each round has its key, drops it, and its circle is a circle with the key as its weakest
@@ -46,7 +47,7 @@ Rounds-by-steps =
 abbrev pub Peeling-is-rounds : Type 0
 Peeling-is-rounds =
     (g : Graph) → Lawful g → (le : Relation) → Order le → Strict le → (k : ℕ) →
-    peel g le k (g .size) (core g k (everyone g)) ≡ span (λ i. (key g le k i, circle g le k i)) 0 (rounds g le k)
+    peel g le k (g .size) (core g k (everyone g)) ≡ map (λ i. (key g le k i, circle g le k i)) (counting 0 (rounds g le k))
 
 abbrev pub Innermost-by-rounds : Type 0
 Innermost-by-rounds =

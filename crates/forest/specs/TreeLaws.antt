@@ -6,11 +6,12 @@
 --     Picking-lists               picking from the tree gives the listing of the network
 --     Holder-is-found             whether w is the weakest of a circle for k, and which circle holds that, is found in the tree
 use mathlib.Core.Path.{_≡_}
-use mathlib.Core.List.{List}
+use mathlib.Core.List.{List, map}
 use Prim.Native.Nat.{ℕ, _≤_}
 use lib.Dec.{eqb}
+use Rattle.std.specs.Iters.{counting}
 use Rattle.std.specs.Orderings.{Decides}
-use Rattle.theory.specs.Sets.{Set, Relation, total}
+use Rattle.theory.specs.Sets.{Set, Relation, total, anyOf}
 use Rattle.theory.specs.Graphs.{Graph, Lawful}
 use Rattle.theory.specs.Orders.{Order, Strict, Weakest}
 use Rattle.theory.specs.Circles.{Circle}
@@ -18,14 +19,14 @@ use Rattle.theory.specs.Cores.{coreNumber}
 use Rattle.theory.specs.Listing.{Choice, listing}
 use Rattle.forest.specs.Rounds.{rounds}
 use Rattle.forest.specs.Holders.{HolderOf}
-use Rattle.forest.specs.Trees.{Vertex, TreeOf, span, vertexAt, tree, entries}
-use Rattle.forest.specs.Picking.{anyOf, ofNumber, underOf, gathered, pick}
+use Rattle.forest.specs.Trees.{Vertex, TreeOf, vertexAt, tree, entries}
+use Rattle.forest.specs.Picking.{ofNumber, underOf, gathered, pick}
 
 abbrev pub Tree-is-right : Type 0
 Tree-is-right = (g : Graph) → Lawful g → (le : Relation) → Order le → Strict le → TreeOf g le (tree g le) × ((vs : List Vertex) → TreeOf g le vs → vs ≡ tree g le)
 
 abbrev pub Vertices-for-k : Type 0
-Vertices-for-k = (g : Graph) → Lawful g → (le : Relation) → Order le → Strict le → (k : ℕ) → 1 ≤ k → ofNumber k (tree g le) ≡ span (vertexAt g le k) 0 (rounds g le k)
+Vertices-for-k = (g : Graph) → Lawful g → (le : Relation) → Order le → Strict le → (k : ℕ) → 1 ≤ k → ofNumber k (tree g le) ≡ map (vertexAt g le k) (counting 0 (rounds g le k))
 
 abbrev pub Entries-are-core-numbers : Type 0
 Entries-are-core-numbers = (g : Graph) → Lawful g → (le : Relation) → Order le → Strict le → entries (tree g le) ≡ total (coreNumber g) (g .size)

@@ -2,7 +2,6 @@
 --     Vertex                      k, the weakest person, the holder's weakest person or none, the own persons
 --     VertexOf g le S x           x is the vertex of the circle S
 --     TreeOf g le vs              vs has one vertex for each circle for each k from 1 on, k first and then rising
---     span f a n                  f at n numbers, from a on
 --     named f h                   f of the number, if there is one
 --     vertexAt g le k i           the vertex of round i
 --     treeFor g le k              the vertices for k
@@ -11,13 +10,12 @@
 --     tree g le                   the tree, as a function
 --     entries vs                  how many persons stand in the vertices
 use mathlib.Core.Path.{_≡_}
-use mathlib.Core.Bool.{cond}
-use mathlib.Core.List.{List, [], _∷_, _++_}
+use mathlib.Core.List.{List, [], _∷_, _++_, map}
 use mathlib.Core.Logic.{_⊎_}
 use mathlib.Core.Option.{Option, some, none}
-use Prim.Native.Nat.{ℕ, zero, suc, _+_, _≤_, _<_}
-use lib.Dec.{ltb}
+use Prim.Native.Nat.{ℕ, zero, suc, _+_, _≤_, _<_, max}
 use lib.ListN.{length}
+use Rattle.std.specs.Iters.{counting}
 use Rattle.std.specs.shelf.Lists.{All}
 use Rattle.theory.specs.Sets.{Set, Relation, _among_, Pairwise, members, ListOf}
 use Rattle.theory.specs.Graphs.{Graph}
@@ -46,30 +44,23 @@ pub record TreeOf (g : Graph) (le : Relation) (vs : List Vertex) : Type 0 where
 
 -- ---- as functions
 
-unfoldable pub span : {A : Type 0} → (ℕ → A) → ℕ → ℕ → List A
-span f a zero = []
-span f a (suc n) = f a ∷ span f (suc a) n
-
 abbrev pub named : (ℕ → ℕ) → Option ℕ → Option ℕ
 named f none = none
 named f (some j) = some (f j)
 
 unfoldable pub vertexAt : Graph → Relation → ℕ → ℕ → Vertex
-vertexAt g le k i = record { k = k; weakest = key g le k i; under = named (key g le k) (holder g le k i); persons = members (own g le k i) 0 (g .size) }
+vertexAt g le k i = record { k = k; weakest = key g le k i; under = named (key g le k) (holder g le k i); persons = members (own g le k i) (g .size) }
 
 unfoldable pub treeFor : Graph → Relation → ℕ → List Vertex
-treeFor g le k = span (vertexAt g le k) 0 (rounds g le k)
+treeFor g le k = map (vertexAt g le k) (counting 0 (rounds g le k))
 
 unfoldable pub treesFrom : Graph → Relation → ℕ → ℕ → List Vertex
 treesFrom g le k zero = []
 treesFrom g le k (suc n) = treeFor g le k ++ treesFrom g le (suc k) n
 
-abbrev pub larger-of : ℕ → ℕ → ℕ
-larger-of a b = cond (ltb a b) b a
-
 unfoldable pub largest : (ℕ → ℕ) → ℕ → ℕ
 largest f zero = 0
-largest f (suc n) = larger-of (f n) (largest f n)
+largest f (suc n) = max (f n) (largest f n)
 
 -- for k from 1 to the largest core number
 unfoldable pub tree : Graph → Relation → List Vertex

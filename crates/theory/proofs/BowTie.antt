@@ -11,7 +11,7 @@ use Rattle.theory.specs.Example.{Bow-tie-core-numbers, Bow-tie-listed, bowTie,
 use Rattle.theory.specs.Graphs.{degree, Lawful}
 use Rattle.theory.specs.Listing.{Choice, every, innermost, listing, Lists}
 use Rattle.theory.specs.Orders.{StrictOrder, Weakest}
-use Rattle.theory.specs.Sets.{_among_, Set}
+use Rattle.theory.specs.Sets.{_among_, anyOf, Set}
 use Rattle.theory.proofs.Circles.{circle-known}
 use Rattle.theory.proofs.Components.{component-greatest}
 use Rattle.theory.proofs.Data.{data-is-lawful}
@@ -95,4 +95,5 @@ unfolding computed
 few-left = refl
 
 pub fallen-neighbour-counts : Fallen-neighbour-counts
+unfolding anyOf
 fallen-neighbour-counts = ((λ ti. omega (arith, ti 1 refl, few-left)), (λ g le k S v m l c. omega (arith, c .tight v m)))

@@ -55,14 +55,14 @@ module _ (g : Graph) (o : Lawful g) (le : Relation) (t : Order le) (str : Strict
       let (S, c, we) = wanted-head w want in
       let ci : Circle g le k S = chosen-circle (Circle g le k) ch S c in
       let e : S ≡ circleAt g le k w = circle-known g o le t str k S w ci we .1 in
-      (S, c, we, subst (λ X. ListOf (λ v. v ∈ S) (members X 0 (g .size))) e (members-list S (g .size) (ci .inside)))
+      (S, c, we, subst (λ X. ListOf (λ v. v ∈ S) (members X (g .size))) e (members-list S (g .size) (ci .inside)))
 
   pub entered-wanted : (e : Entry) → Entered g le k ch e → Wanted g le (byNumber le) k ch (e .0) × (e ≡ entry g le k (e .0))
   unfolding entry
   entered-wanted (w, vs) (S, c, we, ls) =
       let ci : Circle g le k S = chosen-circle (Circle g le k) ch S c in
       let e : S ≡ circleAt g le k w = circle-known g o le t str k S w ci we .1 in
-      let same : vs ≡ members (circleAt g le k w) 0 (g .size) = list-same (λ v. v ∈ S) vs (members S 0 (g .size)) ls (members-list S (g .size) (ci .inside)) ∙ ap (λ X. members X 0 (g .size)) e in
+      let same : vs ≡ members (circleAt g le k w) (g .size) = list-same (λ v. v ∈ S) vs (members S (g .size)) ls (members-list S (g .size) (ci .inside)) ∙ ap (λ X. members X (g .size)) e in
       (head-wanted w (S, c, we), ap (λ xs. (w, xs)) same)
 
   module _ (r : ℕ) where
@@ -117,7 +117,7 @@ peeling-lists g o le t str k r = ap (λ xs. map (entry g le k) (drop (length xs 
     keys = map (λ e. e .0) es
 
     shown : ℕ × Set → Entry
-    shown e = (e .0, members (e .1) 0 (g .size))
+    shown e = (e .0, members (e .1) (g .size))
 
     xs : List ℕ
     xs = kept-by (isName g le (byNumber le) k) (ranked (byNumber le) (g .size))
@@ -147,4 +147,4 @@ peeling-lists g o le t str k r = ap (λ xs. map (entry g le k) (drop (length xs 
     as-shown : (e : ℕ × Set) → e among es → entry g le k (e .0) ≡ shown e
     as-shown e m =
         let (c, we) = all-among (λ e. Circle g le k (e .1) × Weakest le (e .1) (e .0)) es e (met .0) m in
-        ap (λ X. (e .0, members X 0 (g .size))) (sym (circle-known g o le t str k (e .1) (e .0) c we .1))
+        ap (λ X. (e .0, members X (g .size))) (sym (circle-known g o le t str k (e .1) (e .0) c we .1))

@@ -11,7 +11,7 @@ use Rattle.std.specs.shelf.Lists.{All, countBy, kept-by}
 use Rattle.std.proofs.shelf.Elements.{all-drop, all-kept-by, all-map, all-weaker}
 use Rattle.std.proofs.shelf.Sums.{sumBy-cons}
 use Rattle.std.proofs.shelf.Tests.{and-parts, both-ways, eq-eqb, eqb-true, or-cases, or-left, or-right}
-use Rattle.theory.specs.Sets.{_among_, bit, count, has, Pairwise, Set, without, _∈_}
+use Rattle.theory.specs.Sets.{_among_, anyOf, bit, count, has, Pairwise, Set, without, _∈_}
 use Rattle.theory.proofs.Counting.{count-none, count-same, count-split}
 use Rattle.theory.proofs.Sets.{without-from, without-in}
 
@@ -125,11 +125,18 @@ all-both : {A : Type 0} (P Q : A → Type 0) (xs : List A) → All P xs → All 
 all-both P Q [] a b = tt
 all-both P Q (x ∷ xs) a b = ((a .0, b .0), all-both P Q xs (a .1) (b .1))
 
+pub any-of : {A : Type 0} (p : A → Bool) (xs : List A) → (anyOf p xs ≡ true → (x : A) × (x among xs) × (p x ≡ true)) × ((x : A) → x among xs → p x ≡ true → anyOf p xs ≡ true)
+unfolding anyOf
+any-of p [] = ((λ h. absurd (both-ways false refl h)), (λ x m. absurd m))
+any-of p (y ∷ ys) = (
+  (λ h. elim (or-cases (p y) (anyOf p ys) h) [ inl e ↦ (y, inl refl, e) | inr n ↦ let (x, m, q) = any-of p ys .0 n in (x, inr m, q) ]),
+  (λ x m q. elim m [ inl e ↦ or-left (p y) _ (rw e at q) | inr n ↦ or-right (p y) _ (any-of p ys .1 x n q) ]),
+)
+
 pub has-among : (v : ℕ) (xs : List ℕ) → (has v xs ≡ true → v among xs) × (v among xs → has v xs ≡ true)
-has-among v [] = ((λ h. both-ways false refl h), (λ m. absurd m))
-has-among v (x ∷ xs) = (
-  (λ h. elim (or-cases (eqb v x) (has v xs) h) [ inl e ↦ inl (eqb-true v x e) | inr n ↦ inr (has-among v xs .0 n) ]),
-  (λ m. elim m [ inl e ↦ or-left (eqb v x) _ (eq-eqb v x e) | inr n ↦ or-right (eqb v x) _ (has-among v xs .1 n) ]),
+has-among v xs = (
+  (λ h. let (x, m, e) = any-of (eqb v) xs .0 h in subst (λ z. z among xs) (sym (eqb-true v x e)) m),
+  (λ m. any-of (eqb v) xs .1 v m (eq-eqb v v refl)),
 )
 
 pub bit-cond : (b : Bool) → bit b ≡ cond b 1 0

@@ -1,11 +1,13 @@
 -- The list of the members of a set.
-use mathlib.Core.Path.{ap, refl, _≡_}
+use mathlib.Core.Path.{ap, refl, _∙_, _≡_}
 use mathlib.Core.Bool.{Bool, cond, false, true}
 use mathlib.Core.Logic.{inl, inr, _⊎_}
 use mathlib.Core.List.{List, _∷_}
 use Prim.Native.Nat.{_+_, _<_, suc, zero, ℕ, _≤_}
 use native.Mathlib.Omega.{arith}
 use lib.ListN.{length}
+use Rattle.std.specs.Iters.{counting}
+use Rattle.std.specs.shelf.Lists.{kept-by}
 use Rattle.std.proofs.shelf.Tests.{both-ways, cases-eq}
 use Rattle.theory.specs.ListingLaws.{Members-rise}
 use Rattle.theory.specs.Sets.{_among_, bit, count, ListOf, members, Pairwise, Set, _∈_}
@@ -13,49 +15,45 @@ use Rattle.theory.proofs.Counting.{count-suc, count-zero}
 use Rattle.theory.proofs.Lists.{all-from, pairwise-same}
 
 module _ (p : Set) where
-  pub members-among : (a n v : ℕ) → a ≤ v → v < a + n → v ∈ p → v among members p a n
-  unfolding members
+  pub members-among : (a n v : ℕ) → a ≤ v → v < a + n → v ∈ p → v among kept-by p (counting a n)
   members-among a zero v l h m = absurd (omega arith)
-  members-among a (suc n) v l h m = go (p a) refl (cases-eq v a) (members-among (suc a) n v)
+  members-among a (suc n) v l h m = go (p a) refl (cases-eq v a) (members-among (a + 1) n v)
     where
-      go : (b : Bool) → p a ≡ b → (v ≡ a) ⊎ (v ≡ a → ⊥) → (suc a ≤ v → v < suc a + n → v ∈ p → v among members p (suc a) n) → v among cond b (a ∷ members p (suc a) n) (members p (suc a) n)
+      go : (b : Bool) → p a ≡ b → (v ≡ a) ⊎ (v ≡ a → ⊥) → (a + 1 ≤ v → v < a + 1 + n → v ∈ p → v among kept-by p (counting (a + 1) n)) → v among cond b (a ∷ kept-by p (counting (a + 1) n)) (kept-by p (counting (a + 1) n))
       go true e (inl s) ih = inl s
       go true e (inr d) ih = inr (ih (omega arith) (omega arith) m)
       go false e (inl s) ih = absurd (both-ways (p a) e (rw s at m))
       go false e (inr d) ih = ih (omega arith) (omega arith) m
 
-  pub among-members : (a n v : ℕ) → v among members p a n → (a ≤ v) × (v < a + n) × (v ∈ p)
-  unfolding members
+  pub among-members : (a n v : ℕ) → v among kept-by p (counting a n) → (a ≤ v) × (v < a + n) × (v ∈ p)
   among-members a zero v m = absurd m
-  among-members a (suc n) v m = go (p a) refl m (among-members (suc a) n v)
+  among-members a (suc n) v m = go (p a) refl m (among-members (a + 1) n v)
     where
-      go : (b : Bool) → p a ≡ b → v among cond b (a ∷ members p (suc a) n) (members p (suc a) n) → (v among members p (suc a) n → (suc a ≤ v) × (v < suc a + n) × (v ∈ p)) → (a ≤ v) × (v < a + suc n) × (v ∈ p)
+      go : (b : Bool) → p a ≡ b → v among cond b (a ∷ kept-by p (counting (a + 1) n)) (kept-by p (counting (a + 1) n)) → (v among kept-by p (counting (a + 1) n) → (a + 1 ≤ v) × (v < a + 1 + n) × (v ∈ p)) → (a ≤ v) × (v < a + suc n) × (v ∈ p)
       go true e (inl s) ih = (omega arith, omega arith, rw s e)
       go true e (inr m) ih = let (l, h, q) = ih m in (omega arith, omega arith, q)
       go false e m ih = let (l, h, q) = ih m in (omega arith, omega arith, q)
 
-  pub members-length : (a n : ℕ) → length (members p a n) + count p a ≡ count p (a + n)
-  unfolding members
+  pub members-length : (a n : ℕ) → length (kept-by p (counting a n)) + count p a ≡ count p (a + n)
   members-length a zero = let e : a + 0 ≡ a = omega arith in omega (arith, ap (count p) e)
-  members-length a (suc n) = go (p a) refl (members-length (suc a) n)
+  members-length a (suc n) = go (p a) refl (members-length (a + 1) n)
     where
-      e : suc a + n ≡ a + suc n
+      e : a + 1 + n ≡ a + suc n
       e = omega arith
 
-      one : count p (suc a) ≡ bit (p a) + count p a
-      one = count-suc p a
+      one : count p (a + 1) ≡ bit (p a) + count p a
+      one = let z : a + 1 ≡ suc a = omega arith in ap (count p) z ∙ count-suc p a
 
-      go : (b : Bool) → p a ≡ b → length (members p (suc a) n) + count p (suc a) ≡ count p (suc a + n) → length (cond b (a ∷ members p (suc a) n) (members p (suc a) n)) + count p a ≡ count p (a + suc n)
+      go : (b : Bool) → p a ≡ b → length (kept-by p (counting (a + 1) n)) + count p (a + 1) ≡ count p (a + 1 + n) → length (cond b (a ∷ kept-by p (counting (a + 1) n)) (kept-by p (counting (a + 1) n))) + count p a ≡ count p (a + suc n)
       go true q ih = omega (arith, ih, one, ap bit q, ap (count p) e)
       go false q ih = omega (arith, ih, one, ap bit q, ap (count p) e)
 
-members-up : (p : Set) (a n : ℕ) → Pairwise (λ u v. u < v) (members p a n)
-unfolding members
+members-up : (p : Set) (a n : ℕ) → Pairwise (λ u v. u < v) (kept-by p (counting a n))
 members-up p a zero = tt
-members-up p a (suc n) = go (p a) (members-up p (suc a) n)
+members-up p a (suc n) = go (p a) (members-up p (a + 1) n)
   where
-    go : (b : Bool) → Pairwise (λ u v. u < v) (members p (suc a) n) → Pairwise (λ u v. u < v) (cond b (a ∷ members p (suc a) n) (members p (suc a) n))
-    go true h = (all-from (λ v. a < v) (members p (suc a) n) (λ v m. let x = among-members p (suc a) n v m .0 in omega arith), h)
+    go : (b : Bool) → Pairwise (λ u v. u < v) (kept-by p (counting (a + 1) n)) → Pairwise (λ u v. u < v) (cond b (a ∷ kept-by p (counting (a + 1) n)) (kept-by p (counting (a + 1) n)))
+    go true h = (all-from (λ v. a < v) (kept-by p (counting (a + 1) n)) (λ v m. let x = among-members p (a + 1) n v m .0 in omega arith), h)
     go false h = h
 
 pub members-rise : Members-rise
@@ -65,7 +63,7 @@ members-rise p n = (
   let z : 0 + n ≡ n = omega arith in omega (arith, members-length p 0 n, count-zero p, ap (count p) z),
 )
 
-pub members-list : (S : Set) (n : ℕ) → ((v : ℕ) → v ∈ S → v < n) → ListOf (λ v. v ∈ S) (members S 0 n)
+pub members-list : (S : Set) (n : ℕ) → ((v : ℕ) → v ∈ S → v < n) → ListOf (λ v. v ∈ S) (members S n)
 members-list S n ins = let (up, holds, _) = members-rise S n in (up, λ v. ((λ m. holds v .0 m .1), (λ m. holds v .1 (ins v m) m)))
 
 -- a property has one rising list

@@ -46,3 +46,8 @@ pub ends : (R : ℕ → Set) → ((u v : ℕ) → R u v ≡ R v u) → ((u : ℕ
 unfolding total count
 ends R sy ir zero = refl
 ends R sy ir (suc n) = omega (arith, ends R sy ir n, total-row (λ u. R u n) (λ u. count (R u) n) n, count-same (λ u. R u n) (R n) n (λ u _. sy u n), ap bit (ir n))
+
+pub count-total : (p : Set) (n : ℕ) → total (λ v. bit (p v)) n ≡ count p n
+unfolding total count
+count-total p zero = refl
+count-total p (suc n) = omega (arith, count-total p n)

@@ -7,7 +7,7 @@ use mathlib.Core.Path.{_≡_}
 use mathlib.Core.List.{List, [], _∷_}
 use Prim.Native.Nat.{ℕ, _<_}
 use lib.ListN.{getD}
-use Rattle.theory.specs.Sets.{Set, Relation, _∈_, without, minus, both-of, count, total, any, times, below, has, members}
+use Rattle.theory.specs.Sets.{Set, Relation, _∈_, without, minus, both-of, count, total, any, times, below, anyOf, has}
 use Rattle.theory.specs.Graphs.{Graph, Tight, degree, links, fromPairs}
 use Rattle.theory.specs.Orders.{byGrade, byNumber, notAfter, tieBroken, weakest}
 use Rattle.theory.specs.Circles.{Circle}
@@ -16,7 +16,7 @@ use Rattle.theory.specs.Peeling.{dropped, peel}
 use Rattle.theory.specs.Listing.{every, innermost, Lists, insert, ranked, isName, isChosen, last, names, entry, listing}
 
 unfoldable pub computed : ℕ
-unfolding without minus both-of count total any times below members degree links fromPairs byGrade byNumber notAfter weakest everyone prune core coreNumber spread component circleAt dropped peel insert ranked isName isChosen last names entry listing
+unfolding without minus both-of count total any times below anyOf degree links fromPairs byGrade byNumber notAfter weakest everyone prune core coreNumber spread component circleAt dropped peel insert ranked isName isChosen last names entry listing
 computed = 0
 
 abbrev pub these : List ℕ → Set

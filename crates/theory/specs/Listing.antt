@@ -81,7 +81,7 @@ unfoldable pub names : Graph → Relation → Relation → ℕ → ℕ → Choic
 names g le weaker k r choice = last r (kept-by (isChosen g le weaker k choice) (ranked weaker (g .size)))
 
 unfoldable pub entry : Graph → Relation → ℕ → ℕ → Entry
-entry g le k w = (w, members (circleAt g le k w) 0 (g .size))
+entry g le k w = (w, members (circleAt g le k w) (g .size))
 
 unfoldable pub listing : Graph → Relation → ℕ → ℕ → Choice → List Entry
 listing g le k r choice = map (entry g le k) (names g le (byNumber le) k r choice)

@@ -34,7 +34,7 @@ abbrev pub Data-is-lawful : Type 0
 Data-is-lawful = ((n : ℕ) (ps : List (ℕ × ℕ)) → Lawful (fromPairs n ps)) × ((grade : ℕ → ℕ) → Order (byGrade grade))
 
 abbrev pub Members-rise : Type 0
-Members-rise = (p : Set) (n : ℕ) → Pairwise (λ u v. u < v) (members p 0 n) × ((v : ℕ) → (v among members p 0 n → (v < n) × (v ∈ p)) × (v < n → v ∈ p → v among members p 0 n)) × (length (members p 0 n) ≡ count p n)
+Members-rise = (p : Set) (n : ℕ) → Pairwise (λ u v. u < v) (members p n) × ((v : ℕ) → (v among members p n → (v < n) × (v ∈ p)) × (v < n → v ∈ p → v among members p n)) × (length (members p n) ≡ count p n)
 
 abbrev pub Listing-is-right : Type 0
 Listing-is-right =
@@ -51,4 +51,4 @@ Level-listing-is-right =
 abbrev pub Peeling-lists : Type 0
 Peeling-lists =
     (g : Graph) → Lawful g → (le : Relation) → Order le → Strict le → (k r : ℕ) →
-    listing g le k r every ≡ last r (map (λ e. (e .0, members (e .1) 0 (g .size))) (peel g le k (g .size) (core g k (everyone g))))
+    listing g le k r every ≡ last r (map (λ e. (e .0, members (e .1) (g .size))) (peel g le k (g .size) (core g k (everyone g))))

@@ -9,17 +9,19 @@
 --     any p n                     does some number below n pass
 --     times n f x                 f, n times, from x on
 --     below n p                   the members of p below n
---     x among xs, has v vs        x stands in the list; the same as a test
+--     x among xs                  x stands in the list
+--     anyOf p xs, has v vs        does some element pass; does v stand in the list
 --     Pairwise R xs               each element stands in R to all behind it
---     members p a n               those of n numbers, from a on, that pass; rising
+--     members p n                 the numbers below n that pass, rising
 --     ListOf P vs                 vs is the list of those with the property P, rising
 use mathlib.Core.Path.{_≡_}
-use mathlib.Core.Bool.{Bool, true, false, not, _&&_, _||_, cond}
+use mathlib.Core.Bool.{Bool, true, false, not, _&&_, _||_}
 use mathlib.Core.List.{List, [], _∷_}
 use mathlib.Core.Logic.{_⊎_}
 use Prim.Native.Nat.{ℕ, zero, suc, _+_, _<_}
 use lib.Dec.{ltb, eqb}
-use Rattle.std.specs.shelf.Lists.{All}
+use Rattle.std.specs.Iters.{counting}
+use Rattle.std.specs.shelf.Lists.{All, kept-by}
 
 infix 50 _∈_
 infix 50 _⊆_
@@ -82,17 +84,19 @@ abbrev pub _among_ : {A : Type 0} → A → List A → Type 0
 x among [] = ⊥
 x among (y ∷ ys) = (x ≡ y) ⊎ (x among ys)
 
+unfoldable pub anyOf : {A : Type 0} → (A → Bool) → List A → Bool
+anyOf p [] = false
+anyOf p (x ∷ xs) = p x || anyOf p xs
+
 abbrev pub has : ℕ → List ℕ → Bool
-has v [] = false
-has v (x ∷ xs) = eqb v x || has v xs
+has v vs = anyOf (eqb v) vs
 
 abbrev pub Pairwise : {A : Type 0} → (A → A → Type 0) → List A → Type 0
 Pairwise R [] = Unit {0}
 Pairwise R (x ∷ xs) = All (R x) xs × Pairwise R xs
 
-unfoldable pub members : Set → ℕ → ℕ → List ℕ
-members p a zero = []
-members p a (suc n) = cond (p a) (a ∷ members p (suc a) n) (members p (suc a) n)
+abbrev pub members : Set → ℕ → List ℕ
+members p n = kept-by p (counting 0 n)
 
 abbrev pub ListOf : (ℕ → Type 0) → List ℕ → Type 0
 ListOf P vs = Pairwise (λ u v. u < v) vs × ((v : ℕ) → (v among vs → P v) × (P v → v among vs))
