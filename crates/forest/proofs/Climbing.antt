@@ -10,23 +10,23 @@ use lib.Dec.{eqb}
 use lib.ListN.{length}
 use Rattle.std.specs.Iters.{counting}
 use Rattle.std.proofs.shelf.Counted.{length-map-counting}
-use Rattle.std.proofs.shelf.Tests.{and-from, and-parts, both-ways, cases-lt, eq-eqb, eqb-true, or-cases, or-left, or-right}
+use Rattle.std.proofs.shelf.Tests.{and-from, and-parts, both-ways, cases-lt, eq-eqb, eqb-true, ne-eqb, or-cases, or-left, or-right}
 use Rattle.theory.specs.Circles.{Circle, Innermost}
 use Rattle.theory.specs.Graphs.{Graph, Lawful}
 use Rattle.theory.specs.Orders.{Order, Strict}
-use Rattle.theory.specs.Sets.{anyOf, has, members, Relation, _∈_}
+use Rattle.theory.specs.Sets.{anyOf, has, members, Pairwise, Relation, _∈_}
 use Rattle.theory.proofs.Circles.{circle-weakest, group-of}
 use Rattle.theory.proofs.Lists.{any-of, has-among}
 use Rattle.theory.proofs.Members.{among-members, members-among}
 use Rattle.theory.proofs.Orders.{le-self}
 use Rattle.theory.proofs.Sets.{same-set}
-use Rattle.forest.specs.Holders.{holder, Reaches, there, up}
+use Rattle.forest.specs.Holders.{holder, is, Reaches, there, up}
 use Rattle.forest.specs.Picking.{climbs, gathered, underOf}
 use Rattle.forest.specs.Rounds.{circle, key, own, round, rounds}
-use Rattle.forest.specs.TreeLaws.{Vertices-gather-circles}
+use Rattle.forest.specs.TreeLaws.{Children-stand-later, Vertices-gather-circles}
 use Rattle.forest.specs.Trees.{named, treeFor, Vertex, vertexAt}
 use Rattle.forest.proofs.Holders.{circle-round, holder-some, key-held, nest-key, reach-key, reach-last, reach-sub, reached, reaching, round-less}
-use Rattle.forest.proofs.Places.{among-placed, placed-among, under-placed}
+use Rattle.forest.proofs.Places.{among-placed, placed-among, placed-pairwise, under-placed}
 use Rattle.forest.proofs.Rounds.{circle-circle, circle-complete, keys-rise, left-first, left-within, own-left, own-round, round-own}
 use Rattle.forest.proofs.Trees.{of-tree}
 
@@ -122,3 +122,15 @@ pub vertices-gather-circles : Vertices-gather-circles
 vertices-gather-circles g o le t str k l S w c we =
     let (i, b, e, s) = circle-complete g o le t str k S w c we in
     subst (λ vs. gathered vs w ≡ S) (sym (of-tree g o le t str k l)) (subst (λ z. gathered (treeFor g le k) z ≡ S) e (gathers g o le t str k i b ∙ s))
+
+pub children-stand-later : Children-stand-later
+unfolding treeFor vertexAt
+children-stand-later g o le t str k l =
+    subst (Pairwise (λ x y. is (y .weakest) (x .under) ≡ false)) (sym (of-tree g o le t str k l))
+    (placed-pairwise (vertexAt g le k) (λ x y. is (y .weakest) (x .under) ≡ false) 0 (rounds g le k) (λ i j c b. go i j c (omega arith) (holder g le k i) refl))
+  where
+    go : (i j : ℕ) → i < j → j < rounds g le k → (h : Option ℕ) → holder g le k i ≡ h → is (key g le k j) (named (key g le k) h) ≡ false
+    go i j c b none e = refl
+    go i j c b (some h) e =
+        let s = holder-some g o le t str k i h (omega arith) e .0 in
+        ne-eqb (key g le k h) (key g le k j) (λ q. let z = same-key g o le t str k h j (omega arith) b q in omega arith)

@@ -140,6 +140,7 @@ pub holders-are-smallest : Holders-are-smallest
 holders-are-smallest g o le t str k =
     record {
       latest = λ i j e. holder-is g o le t str k i (some j) e;
+      free = λ i e. holder-is g o le t str k i none e;
       smallest = small;
       outermost = λ i l e S c p. elim (larger g o le t str k i l S c p) [ inl q ↦ q | inr x ↦ absurd (holder-is g o le t str k i none e (x .0) (x .1) (x .2)) ];
       parts = parts g o le t str k;

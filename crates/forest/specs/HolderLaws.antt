@@ -16,8 +16,9 @@ use Rattle.forest.specs.Rounds.{key, own, circle, rounds, round}
 use Rattle.forest.specs.Holders.{holder, Reaches, heldBy, totalFrom}
 
 pub record Held (g : Graph) (le : Relation) (k : ℕ) : Type 0 where
-  -- the last earlier round whose circle has the key
+  -- the last earlier round whose circle has the key, if there is one
   pub latest : (i j : ℕ) → holder g le k i ≡ some j → (j < i) × (key g le k i ∈ circle g le k j) × ((h : ℕ) → h < i → key g le k i ∈ circle g le k h → h ≤ j)
+  pub free : (i : ℕ) → holder g le k i ≡ none → (h : ℕ) → h < i → key g le k i ∈ circle g le k h → ⊥
   -- the holder stands before, is another circle that holds this one, and every other circle that does holds it too
   pub smallest : (i j : ℕ) → i < rounds g le k → holder g le k i ≡ some j →
       (j < i) × (circle g le k i ⊆ circle g le k j) × ((circle g le k j ⊆ circle g le k i) → ⊥)

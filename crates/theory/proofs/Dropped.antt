@@ -1,4 +1,4 @@
--- Who is dropped in a round, and when that is the whole circle.
+-- A round of peeling stays in the component of the person that is taken out.
 use mathlib.Core.Path.{_≡_}
 use mathlib.Core.Bool.{_&&_, false, true, _||_}
 use mathlib.Core.Logic.{inl, inr, _⊎_}

@@ -10,11 +10,10 @@ use Rattle.theory.specs.Cores.{above, circleAt, component, core, coreNumber, e
 use Rattle.theory.specs.Graphs.{degree, Graph, Lawful, links}
 use Rattle.theory.specs.Orders.{Order, StrictOrder, Weakest}
 use Rattle.theory.specs.Sets.{count, Relation, Set, total, _∈_}
-use Rattle.theory.proofs.Circles.{at-circle, at-takes, at-weakest, from-level}
-use Rattle.theory.proofs.Components.{component-connected, component-holds, component-tight, component-within}
+use Rattle.theory.proofs.Circles.{at-circle, at-takes, at-weakest, circle-weakest, from-level, group-core}
+use Rattle.theory.proofs.Components.{component-holds, core-group}
 use Rattle.theory.proofs.Cores.{core-bound, core-greatest, core-less, core-tight, core-within, everyone-in, everyone-within}
 use Rattle.theory.proofs.Counting.{count-front, count-mono}
-use Rattle.theory.proofs.Orders.{weakest-of}
 use Rattle.theory.proofs.Sets.{same-test}
 use Rattle.theory.proofs.Totals.{ends, rows-columns, total-le}
 
@@ -43,22 +42,21 @@ core-number-is-greatest g u l = (is-core g u l, only)
         omega (arith, is-core g u l .most c S i t m, x .most (coreNumber g u) S′ i′ t′ m′)
 
 pub in-circle : (g : Graph) → Lawful g → (le : Relation) → Order le → (k u : ℕ) → u ∈ core g k (everyone g) → (S : Set) × LevelCircle g le k S × (u ∈ S)
-in-circle g o le t k u m = go (weakest-of le t D (g .size) (component-within g o X u l m) u (component-holds g o X u l m))
+in-circle g o le t k u m = go (circle-weakest g o le t k D gr)
   where
-    X : Set
-    X = core g k (everyone g)
-
-    l : u < g .size
-    l = core-within g k (everyone g) u m
-
     D : Set
-    D = component g X u
+    D = component g (core g k (everyone g)) u
+
+    gr : Group g k D
+    gr = core-group g o k (everyone g) u m
+
+    held : u ∈ D
+    held = component-holds g o (core g k (everyone g)) u (core-within g k (everyone g) u m) m
 
     go : (w : ℕ) × Weakest le D w → (S : Set) × LevelCircle g le k S × (u ∈ S)
     go (w, we) =
-        let gr : Group g k D = record { inside = component-within g o X u l m; someone = (u, component-holds g o X u l m); connected = component-connected g o X u l m; tight = component-tight g o X u l m k (core-tight g k (everyone g)) } in
-        let c : w ∈ core g k (above le w) = core-greatest g k (above le w) D (gr .inside) (we .1) (gr .tight) w (we .0) in
-        (circleAt g le k w, at-circle g o le t k w c, at-takes g o le t k w c D gr (we .1) w (we .0) (at-weakest g o le t k w c .0) u (component-holds g o X u l m))
+        let c : w ∈ core g k (above le w) = group-core g o le t k D w gr we w (we .0) in
+        (circleAt g le k w, at-circle g o le t k w c, at-takes g o le t k w c D gr (we .1) w (we .0) (at-weakest g o le t k w c .0) u held)
 
 pub level-core-number-tells-circles : Core-number-tells-circles LevelCircle Order
 level-core-number-tells-circles g o le t u l k =

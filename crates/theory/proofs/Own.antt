@@ -12,8 +12,8 @@ use Rattle.theory.specs.Peeling.{dropped}
 use Rattle.theory.specs.PeelingLaws.{Dropped-are-own, Innermost-drops-all, Innermost-is-tested}
 use Rattle.theory.specs.Sets.{minus, Relation, Set, without, _∈_, _⊆_}
 use Rattle.theory.proofs.Circles.{at-circle, at-group, at-takes, at-weakest, circle-is, circle-known, circle-made, circle-weakest, group-core}
-use Rattle.theory.proofs.Components.{component-connected, component-holds, component-part, component-tight, component-within, core-group}
-use Rattle.theory.proofs.Cores.{core-greatest, core-part, core-tight, core-within}
+use Rattle.theory.proofs.Components.{component-holds, component-part, core-group}
+use Rattle.theory.proofs.Cores.{core-greatest, core-part, core-within}
 use Rattle.theory.proofs.Orders.{weakest-of}
 use Rattle.theory.proofs.Sets.{false-since, minus-from, minus-in, same-set, without-from, without-in}
 
@@ -97,7 +97,7 @@ innermost-is-tested g o le t k S w c we = (there, back)
         E = component g D v
 
         gr : Group g k E
-        gr = record { inside = component-within g o D v l m; someone = (v, component-holds g o D v l m); connected = component-connected g o D v l m; tight = component-tight g o D v l m k (core-tight g k rest) }
+        gr = core-group g o k rest v m
 
         go : (x : ℕ) × Weakest le E x → ⊥
         go (x, wx) =
