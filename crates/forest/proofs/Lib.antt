@@ -1,0 +1,13 @@
+pub mod Places
+pub mod Rounds
+pub mod Holders
+pub mod Joining
+pub mod Finding
+pub mod Sums
+pub mod Entries
+pub mod Trees
+pub mod Climbing
+pub mod Picking
+pub mod Steps
+pub mod Vertices
+pub mod BowTie

@@ -1,0 +1,10 @@
+pub mod Rounds
+pub mod Holders
+pub mod Joining
+pub mod Trees
+pub mod Picking
+pub mod RoundLaws
+pub mod HolderLaws
+pub mod JoiningLaws
+pub mod TreeLaws
+pub mod Example

@@ -1,0 +1,13 @@
+pub mod Sets
+pub mod Graphs
+pub mod Orders
+pub mod Circles
+pub mod Cores
+pub mod Peeling
+pub mod Listing
+pub mod CoreLaws
+pub mod CircleLaws
+pub mod PeelingLaws
+pub mod ListingLaws
+pub mod LoopLaws
+pub mod Example
