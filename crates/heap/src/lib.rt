@@ -1,4 +1,10 @@
 // A min-heap over a lent slice, for every element kind with a total order.
+pub mod calls;
 pub mod ordered;
+mod sift;
 
+pub use calls::empty;
+pub use calls::least;
+pub use calls::put;
+pub use calls::take;
 pub use ordered::Ordered;

@@ -1,0 +1,3 @@
+pub mod Order
+pub mod Turns
+pub mod Standing
