@@ -10,5 +10,5 @@ returns g c =
     let pos : 0 < c .args .waiting = omega arith in
     record {
       cases = search needs;
-      stands = holds-least (g .T·Ordered .atMost) (m .total) (m .transitive) (c .args .places .now) (c .args .waiting) (c .index-places-0 .result) (c .index-places-0 .is) pos;
+      stands = holds-least (g .T·Ordered .atMost) (m .total) (m .transitive) (c .args .places .now) (c .args .waiting) (c .first .result) (c .first .ensures) pos;
     }
