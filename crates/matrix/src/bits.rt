@@ -5,11 +5,13 @@ ghost use Prim.Native.Nat.{ℕ, _*_, _<_, _≤_};
 ghost use lib.ListN.{length, getD};
 ghost use Rattle.grades.specs.Places.{onto};
 ghost use Rattle.matrix.specs.Bits.{stride, bitAt, spareAt, flipped, pairFlipped};
+ghost use Rattle.networks.specs.Places.{filled};
 ghost use Rattle.std.specs.Finite.{nth};
 ghost use Rattle.std.specs.Iters.{counting};
 ghost use Rattle.std.specs.shelf.Lists.{kept-by};
 use crate::words::copy_set_bits;
 use crate::words::eight;
+use networks::places::fill_front;
 
 pub(crate) fn bit(bits: &[u8], n: usize, u: usize, v: usize) -> bool
     requires { ⌜ n ≤ 4096 ⌝ ∗ ⌜ n * stride n ≤ length (now bits) ⌝ }
@@ -73,6 +75,14 @@ pub(crate) fn flip_pair(bits: &mut [u8], n: usize, u: usize, v: usize)
 {
     flip(bits, n, u, v);
     flip(bits, n, v, u);
+}
+
+// The rows of n persons hold no link.
+pub(crate) fn clear_rows(bits: &mut [u8], n: usize)
+    requires { ⌜ n ≤ 4096 ⌝ }
+    ensures { λ _. ⌜ now (bits .exit) ≡ filled (n * stride n) 0 (now (bits .entry)) ⌝ }
+{
+    fill_front(bits, n * ((n + 7) / 8), 0);
 }
 
 // A slice of bytes holds bytes: for the proof of what the memory holds.

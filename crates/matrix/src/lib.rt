@@ -6,5 +6,8 @@ pub mod opening;
 pub mod reading;
 pub mod words;
 
+pub use changing::BitMatrixChanging;
 pub use matrix::BitMatrix;
 pub use matrix::MatrixMemory;
+pub use opening::BitMatrixOpening;
+pub use reading::BitMatrixNetwork;

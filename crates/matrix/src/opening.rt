@@ -5,13 +5,13 @@ ghost use lib.ListN.{length};
 ghost use Rattle.matrix.specs.Memory.{refusalFor, fixedIn, Holding};
 ghost use Rattle.std.specs.Of.Vec.{vec-items};
 use crate::bits::are_bytes;
+use crate::bits::clear_rows;
 use crate::matrix::BitMatrix;
 use crate::matrix::MatrixMemory;
 use crate::reading::BitMatrixNetwork;
 use faults::CallFault;
 use grades::Grade;
 use networks::Opening;
-use networks::places::fill_front;
 
 pub impl<G: Grade + Drop> Opening for BitMatrix<G> as BitMatrixOpening {
     type Memory = MatrixMemory<G>;
@@ -41,7 +41,7 @@ pub impl<G: Grade + Drop> Opening for BitMatrix<G> as BitMatrixOpening {
         let mut bits = memory.bits;
         let grades = memory.grades;
         if granted {
-            fill_front(&mut bits, n * ((n + 7) / 8), 0);
+            clear_rows(&mut bits, n);
             return BitMatrix { n, bits, grades };
         }
         BitMatrix { n: 0, bits, grades }

@@ -6,7 +6,10 @@ pub mod opening;
 pub mod places;
 
 pub use capped::Capped;
+pub use capped::CappedChanging;
 pub use capped::CappedMemory;
+pub use capped::CappedNetwork;
+pub use capped::CappedOpening;
 pub use changing::Changing;
 pub use network::Network;
 pub use opening::Opening;

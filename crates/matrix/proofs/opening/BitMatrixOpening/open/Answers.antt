@@ -22,7 +22,7 @@ ghost-result g c =
     let n = c .args .n in
     let none = granted-none (refusalFor n (length (m .bits .items) ∷ length (m .grades .items) ∷ [])) (ap isOk (sym (c .check .ensures)) ∙ sym (c .if-granted .ensures tt .value)) in
     let room = room-for n (length (m .bits .items)) (length (m .grades .items)) none in
-    let stored = refilled-is (m .bits) (c .fill-front .last .places) (omega arith) ∙ c .fill-front .ensures ∙ ap (filled (n * stride n) 0) (c .deref-mut .ensures .value) in
+    let stored = refilled-is (m .bits) (c .clear-rows .last .bits) (omega arith) ∙ c .clear-rows .ensures ∙ ap (filled (n * stride n) 0) (c .deref-mut .ensures .value) in
     let k = subst (Kept n) (sym stored) (cleared-keeps n (m .bits .items) (room .1)) in
     (room .0, (k .room, (room .2, (k .mirror, (k .apart, (k .spare, tt))))))
 
@@ -32,7 +32,7 @@ returns-then-granted g c =
     let n = c .args .n in
     let none = granted-none (refusalFor n (length (m .bits .items) ∷ length (m .grades .items) ∷ [])) (ap isOk (sym (c .check .ensures)) ∙ sym (c .if-granted .ensures tt .value)) in
     let room = room-for n (length (m .bits .items)) (length (m .grades .items)) none in
-    let stored = refilled-is (m .bits) (c .fill-front .last .places) (omega arith) ∙ c .fill-front .ensures ∙ ap (filled (n * stride n) 0) (c .deref-mut .ensures .value) in
+    let stored = refilled-is (m .bits) (c .clear-rows .last .bits) (omega arith) ∙ c .clear-rows .ensures ∙ ap (filled (n * stride n) 0) (c .deref-mut .ensures .value) in
     record {
       network = ap (λ t. netIn n t (m .grades .items)) stored ∙ cleared-net n (m .bits .items) (room .1) (m .grades .items) ∙ ap (λ f. opened (openedSize f n) (m .grades .items)) (sym none);
       fixed = ap (λ t. fixedIn n t (m .grades .items)) stored ∙ cleared-fixed n (m .bits .items) (room .1) (m .grades .items) ∙ ap (λ f. fixedIn (openedSize f n) (m .bits .items) (m .grades .items)) (sym none);

@@ -1,0 +1,110 @@
+// Opens the bow tie network, links it, tries refused changes, and shows who is linked to whom.
+use faults::CallFault;
+use grades::Points;
+use grades::PointsGrade;
+use matrix::BitMatrix;
+use matrix::BitMatrixChanging;
+use matrix::BitMatrixNetwork;
+use matrix::BitMatrixOpening;
+use matrix::MatrixMemory;
+use networks::Changing;
+use networks::Network;
+use networks::Opening;
+use std::error::AnyError;
+
+const POINTS: [i32; 5] = [10, 30, 20, 50, 40];
+
+const LINKS: [(usize, usize); 6] = [(0, 1), (0, 2), (1, 2), (2, 3), (2, 4), (3, 4)];
+
+// One line a person: number, points, degree, neighbours.
+fn show(rt: &impl Print, net: &BitMatrix<Points>) -> Result<(), AnyError> {
+    for u in 0..net.persons() {
+        if let Some(grade) = net.grade(u) {
+            let points = grade.0;
+            let degree = net.degree(u);
+            print!(rt, "person {u}: {points} points, {degree} links:")?;
+            for i in 0..degree {
+                if let Some(v) = net.neighbour(u, i) {
+                    print!(rt, " {v}")?;
+                }
+            }
+            println!(rt, "")?;
+        }
+    }
+    Ok(())
+}
+
+// How a call that has been named was answered.
+fn tell(rt: &impl Print, answer: Result<(), CallFault>) -> Result<(), AnyError> {
+    match faults::code(answer) {
+        0 => println!(rt, ": done")?,
+        number => println!(rt, ": refused with {number}")?,
+    }
+    Ok(())
+}
+
+fn link(rt: &impl Print, net: &mut BitMatrix<Points>, u: usize, v: usize) -> Result<(), AnyError> {
+    print!(rt, "link {u}-{v}")?;
+    tell(rt, net.link(u, v))
+}
+
+fn unlink(
+    rt: &impl Print,
+    net: &mut BitMatrix<Points>,
+    u: usize,
+    v: usize,
+) -> Result<(), AnyError> {
+    print!(rt, "unlink {u}-{v}")?;
+    tell(rt, net.unlink(u, v))
+}
+
+fn regrade(
+    rt: &impl Print,
+    net: &mut BitMatrix<Points>,
+    u: usize,
+    points: i32,
+) -> Result<(), AnyError> {
+    print!(rt, "regrade {u} to {points}")?;
+    tell(rt, net.regrade(u, Points(points)))
+}
+
+fn check(rt: &impl Print, n: usize, memory: &MatrixMemory<Points>) -> Result<(), AnyError> {
+    print!(rt, "opening for {n} persons")?;
+    tell(rt, BitMatrix::check(n, memory))
+}
+
+fn tie(rt: &impl Print, net: &mut BitMatrix<Points>) -> Result<(), AnyError> {
+    for (u, points) in POINTS.iter().enumerate() {
+        regrade(rt, net, u, *points)?;
+    }
+    for (u, v) in LINKS {
+        link(rt, net, u, v)?;
+    }
+    Ok(())
+}
+
+fn refuse(rt: &impl Print, net: &mut BitMatrix<Points>) -> Result<(), AnyError> {
+    link(rt, net, 0, 5)?;
+    link(rt, net, 3, 3)?;
+    link(rt, net, 4, 3)?;
+    unlink(rt, net, 0, 4)?;
+    regrade(rt, net, 7, 1)
+}
+
+fn run(rt: &LibcRuntime) -> Result<(), AnyError> {
+    let bits = vec![in rt.alloc(); 0u8; 5]?;
+    let grades = vec![in rt.alloc(); Points(0); 5]?;
+    let memory = MatrixMemory { bits, grades };
+    check(rt, 6, &memory)?;
+    check(rt, 5, &memory)?;
+    let mut net = BitMatrix::open(5, memory);
+    tie(rt, &mut net)?;
+    show(rt, &net)?;
+    refuse(rt, &mut net)?;
+    unlink(rt, &mut net, 3, 4)?;
+    show(rt, &net)
+}
+
+fn main(rt: LibcRuntime) -> Result<(), AnyError> {
+    rt.report(run(&rt))
+}
