@@ -12,12 +12,11 @@ use Rattle.theory.specs.Graphs.{Graph, Lawful}
 use Rattle.theory.specs.Orders.{Order, Strict}
 use Rattle.theory.specs.Sets.{Relation, Set, _∈_, _⊆_}
 use Rattle.theory.proofs.Circles.{at-takes, circle-weakest, group-of}
-use Rattle.theory.proofs.Components.{component-closed}
 use Rattle.theory.proofs.Counting.{one-more}
 use Rattle.forest.specs.HolderLaws.{Holders-are-smallest}
 use Rattle.forest.specs.Holders.{holder, lastBelow, Reaches, there, up}
-use Rattle.forest.specs.Rounds.{circle, key, left, own, round, rounds}
-use Rattle.forest.proofs.Rounds.{circle-at, circle-circle, circle-complete, circle-left, in-rounds, key-in, key-round, left-first, left-mono, left-within, own-circle, own-left, own-round, round-own, round-tells, round-weakest}
+use Rattle.forest.specs.Rounds.{circle, key, own, round, rounds}
+use Rattle.forest.proofs.Rounds.{circle-at, circle-circle, circle-complete, circle-left, in-rounds, key-in, key-round, left-first, left-mono, own-circle, own-left, own-round, round-own, round-tells, round-weakest}
 
 -- what the last below n is
 abbrev pub LastIs : Set → ℕ → Option ℕ → Type 0
@@ -164,10 +163,3 @@ holders-are-smallest g o le t str k =
             | inr x ↦ let (h, b, n, s) = x in inr (λ v u. subst (λ X. v ∈ X) s (nest g o le t str k h j (f h b n) lj (key g le k i) n m v u))
           ],
         )
-
--- nobody left before round i outside its circle is linked to it
-pub circle-shut : (g : Graph) → Lawful g → (le : Relation) → Order le → Strict le → (k i : ℕ) → i < rounds g le k → (u v : ℕ) → u ∈ circle g le k i → g .linked u v ≡ true → v ∈ left g le k i → v ∈ circle g le k i
-unfolding circle
-circle-shut g o le t str k i l =
-    let x = round-weakest g o le t str k i l .0 in
-    component-closed g o (left g le k i) (key g le k i) (left-within g o le t str k i (key g le k i) x) x

@@ -8,74 +8,44 @@ use native.Mathlib.Omega.{arith}
 use lib.Dec.{eqb}
 use Rattle.std.specs.Orderings.{Decides}
 use Rattle.std.proofs.shelf.Tests.{both-ways, cases-bool, cases-eq, cases-lt, eq-eqb, ne-eqb, or-from, or-left, or-right}
-use Rattle.theory.specs.Circles.{Group}
-use Rattle.theory.specs.Cores.{above, circleAt, component, core}
+use Rattle.theory.specs.Cores.{component}
 use Rattle.theory.specs.Graphs.{Graph, Inside, Lawful, Walk}
-use Rattle.theory.specs.Orders.{Order, Strict, Weakest}
+use Rattle.theory.specs.Orders.{Order, Strict}
 use Rattle.theory.specs.Sets.{Relation, Set, _∈_, _⊆_}
-use Rattle.theory.proofs.Circles.{at-group, at-takes, at-weakest, circle-made, circle-weakest, group-core}
-use Rattle.theory.proofs.Components.{component-closed, component-connected, component-greatest, component-holds, component-part, component-same, component-takes, component-tight, component-within}
-use Rattle.theory.proofs.Cores.{core-greatest}
+use Rattle.theory.proofs.Components.{component-closed, component-connected, component-greatest, component-holds, component-part, component-same, component-takes}
 use Rattle.theory.proofs.Sets.{minus-in, same-set}
 use Rattle.theory.proofs.Walks.{walk-closed, walk-mono}
 use Rattle.forest.specs.Holders.{holder, Reaches, there, up}
 use Rattle.forest.specs.Joining.{rejoined, Roots, Touched}
 use Rattle.forest.specs.JoiningLaws.{Joining-steps-back, Roots-end-holders}
 use Rattle.forest.specs.Rounds.{circle, key, left, own, round, rounds}
-use Rattle.forest.proofs.Holders.{held-by-round, holder-is, holder-some, key-held, key-of-round, nest, nest-key, reach-key, reach-sub, round-less}
-use Rattle.forest.proofs.Rounds.{circle-circle, circle-complete, circle-left, in-rounds, left-above, left-falls, left-first, left-mono, left-tight, left-within, own-circle, round-tells, round-weakest}
+use Rattle.forest.proofs.Holders.{held-by-round, holder-is, holder-some, key-held, nest, nest-key, reach-key, reach-sub, round-less}
+use Rattle.forest.proofs.Rounds.{circle-circle, circle-left, left-falls, left-first, left-mono, left-within, own-circle, round-tells, round-weakest}
 
 module _ (g : Graph) (o : Lawful g) (le : Relation) (t : Order le) (str : Strict le) (k : ℕ) where
-  abbrev pub L : ℕ → Set
+  abbrev L : ℕ → Set
   L = left g le k
 
-  abbrev pub K : ℕ → ℕ
+  abbrev K : ℕ → ℕ
   K = key g le k
 
-  abbrev pub Ci : ℕ → Set
+  abbrev Ci : ℕ → Set
   Ci = circle g le k
 
-  abbrev pub N : ℕ
+  abbrev N : ℕ
   N = rounds g le k
 
-  abbrev pub rd : ℕ → ℕ
+  abbrev rd : ℕ → ℕ
   rd = round g le k
 
   ins : (j : ℕ) → Inside g (L j)
   ins = left-within g o le t str k
 
-  pub same-circle : (i j : ℕ) → i < N → j < N → Ci i ≡ Ci j → i ≡ j
+  same-circle : (i j : ℕ) → i < N → j < N → Ci i ≡ Ci j → i ≡ j
   same-circle i j a b e =
       let p = nest-key g o le t str k j i a (subst (λ S. K i ∈ S) e (key-held g o le t str k i a)) .0 in
       let q = nest-key g o le t str k i j b (subst (λ S. K j ∈ S) (sym e) (key-held g o le t str k j b)) .0 in
       omega arith
-
-  -- a component of those left before round j is a circle
-  pub part-of : (j u : ℕ) → u ∈ L j → (m : ℕ) × (j ≤ m) × (m < N) × (component g (L j) u ≡ Ci m)
-  part-of j u x = go (circle-weakest g o le t k E gr)
-    where
-      l : u < g .size
-      l = left-within g o le t str k j u x
-
-      E : Set
-      E = component g (left g le k j) u
-
-      gr : Group g k E
-      gr = record { inside = component-within g o (left g le k j) u l x; someone = (u, component-holds g o (left g le k j) u l x); connected = component-connected g o (left g le k j) u l x; tight = component-tight g o (left g le k j) u l x k (left-tight g o le t str k j) }
-
-      go : (w : ℕ) × Weakest le E w → (m : ℕ) × (j ≤ m) × (m < rounds g le k) × (E ≡ circle g le k m)
-      go (w, we) =
-          let b : j < rounds g le k = in-rounds g o le t str k j u x in
-          let xw : w ∈ left g le k j = component-part g o (left g le k j) u l x w (we .0) in
-          let cw : w ∈ core g k (above le w) = group-core g o le t k E w gr we w (we .0) in
-          let low : le (key g le k j) w ≡ true = round-weakest g o le t str k j b .1 w xw in
-          let sub : circleAt g le k w ⊆ left g le k j = subst (λ S. circleAt g le k w ⊆ S) (sym (left-above g o le t str k j b)) (core-greatest g k (above le (key g le k j)) (circleAt g le k w) (at-group g o le t k w cw .inside) (λ v m. t .chain (key g le k j) w v low (at-weakest g o le t k w cw .1 v m)) (at-group g o le t k w cw .tight)) in
-          let into : circleAt g le k w ⊆ E = λ v m. component-takes g o (left g le k j) u l x (circleAt g le k w) sub (we .0) (at-group g o le t k w cw .connected w v (at-weakest g o le t k w cw .0) m) in
-          let e : E ≡ circleAt g le k w = same-set E (circleAt g le k w) (at-takes g o le t k w cw E gr (we .1) w (we .0) (at-weakest g o le t k w cw .0)) into in
-          let (m, lm, ek, ec) = circle-complete g o le t str k (circleAt g le k w) w (circle-made g o le t str k w cw) (at-weakest g o le t k w cw) in
-          let late = round-tells g o le t str k w (left-first g o le t str k j w xw) j .0 xw in
-          let same : round g le k w ≡ m = subst (λ z. round g le k z ≡ m) ek (key-of-round g o le t str k m lm) in
-          (m, omega (arith, late, same), lm, e ∙ sym ec)
 
   -- the part of a person is the part of the person's round
   part-round : (j u : ℕ) → u ∈ L j → (rd u < N) × (j ≤ rd u) × (K (rd u) ∈ L j) × (component g (L j) u ≡ component g (L j) (K (rd u)))
@@ -89,7 +59,7 @@ module _ (g : Graph) (o : Lawful g) (le : Relation) (t : Order le) (str : Strict
       let m : u ∈ component g (left g le k j) (key g le k a) = component-greatest g o (left g le k j) (key g le k a) (ins j (key g le k a) xk) xk (circle g le k a) sub (circle-circle g o le t str k a b .0 .connected) (key-held g o le t str k a b) u (held-by-round g o le t str k u c) in
       (b, l, xk, component-same g o (left g le k j) (left-within g o le t str k j) (key g le k a) u xk m)
 
-  pub key-left : (j a : ℕ) → j ≤ a → a < N → K a ∈ L j
+  key-left : (j a : ℕ) → j ≤ a → a < N → K a ∈ L j
   key-left j a l b = left-mono g o le t str k j a (key g le k a) l (round-weakest g o le t str k a b .0)
 
   module _ (j : ℕ) (root : ℕ → ℕ) (ro : Roots g le k j root) where

@@ -3,13 +3,13 @@ use mathlib.Core.Path.{ap, refl, subst, sym, _≡_}
 use mathlib.Core.Bool.{Bool, cond, false, true}
 use mathlib.Core.Logic.{inl, inr, _≢_, _⊎_}
 use mathlib.Core.List.{[], map, _∷_}
-use mathlib.Core.Option.{none, Option, some}
+use mathlib.Core.Option.{Option}
 use Prim.Native.Nat.{_+_, _<_, max, suc, zero, ℕ, _≤_}
 use native.Mathlib.Omega.{arith}
 use lib.Dec.{eqb}
 use Rattle.std.specs.Iters.{counting}
 use Rattle.std.specs.shelf.Lists.{kept-by}
-use Rattle.std.proofs.shelf.Tests.{both-ways, cases-eq, eq-eqb, ne-eqb}
+use Rattle.std.proofs.shelf.Tests.{cases-eq, eq-eqb, ne-eqb}
 use Rattle.theory.specs.Sets.{_among_, Pairwise}
 use Rattle.theory.proofs.Lists.{all-from}
 use Rattle.forest.specs.Picking.{underOf}
@@ -64,10 +64,3 @@ largest-is f (suc n) v l = go (cases-eq v n) (largest-is f n v)
     go : (v ≡ n) ⊎ (v ≡ n → ⊥) → (v < n → f v ≤ largest f n) → f v ≤ max (f n) (largest f n)
     go (inl e) ih = omega (arith, ap f e)
     go (inr d) ih = omega (arith, ih (omega arith))
-
-pub none-some : (a : ℕ) → _≡_ {A = Option ℕ} none (some a) → ⊥
-none-some a e = both-ways (isSome none) refl (subst (λ x. isSome x ≡ true) (sym e) refl)
-  where
-    isSome : Option ℕ → Bool
-    isSome none = false
-    isSome (some _) = true

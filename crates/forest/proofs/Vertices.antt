@@ -1,7 +1,7 @@
 -- The tree has the vertex of each circle and no other, and tells holders.
 use mathlib.Core.Path.{ap, refl, subst, sym, _∙_, _≡_}
 use mathlib.Core.Bool.{false}
-use mathlib.Core.Logic.{inl, inr, _⊎_}
+use mathlib.Core.Logic.{inl, inr}
 use mathlib.Core.List.{List, map}
 use mathlib.Core.Option.{none, Option, some}
 use Prim.Native.Nat.{_<_, suc, zero, ℕ, _≤_}
@@ -15,7 +15,7 @@ use Rattle.theory.specs.Circles.{Circle, Own}
 use Rattle.theory.specs.Cores.{coreNumber}
 use Rattle.theory.specs.Graphs.{Graph, Lawful}
 use Rattle.theory.specs.Listing.{every}
-use Rattle.theory.specs.Orders.{Below, Order, Strict, Weakest, weakest}
+use Rattle.theory.specs.Orders.{Order, Strict, Weakest, weakest}
 use Rattle.theory.specs.Sets.{_among_, anyOf, ListOf, Pairwise, Relation, Set, _∈_}
 use Rattle.theory.proofs.Circles.{circle-weakest, group-of}
 use Rattle.theory.proofs.Lists.{all-among, all-from, among-append, any-of, pairwise-append, pairwise-same}
@@ -27,7 +27,7 @@ use Rattle.forest.specs.Holders.{holder, HolderOf}
 use Rattle.forest.specs.Picking.{ofNumber, underOf}
 use Rattle.forest.specs.Rounds.{circle, key, own, rounds}
 use Rattle.forest.specs.TreeLaws.{Holder-is-found, Tree-is-right}
-use Rattle.forest.specs.Trees.{largest, named, tree, treeFor, TreeOf, treesFrom, Vertex, vertexAt, VertexOf}
+use Rattle.forest.specs.Trees.{Before, largest, named, tree, treeFor, TreeOf, treesFrom, Vertex, vertexAt, VertexOf}
 use Rattle.forest.proofs.Climbing.{under-is}
 use Rattle.forest.proofs.Holders.{holders-are-smallest, larger, nest-key}
 use Rattle.forest.proofs.Places.{among-placed, placed-among, placed-pairwise}
@@ -35,7 +35,7 @@ use Rattle.forest.proofs.Rounds.{circle-circle, circle-complete, keys-rise, le
 use Rattle.forest.proofs.Trees.{among-tree, of-among, of-tree, tree-among, vertex-number}
 
 module _ (g : Graph) (o : Lawful g) (le : Relation) (t : Order le) (str : Strict le) (k : ℕ) where
-  holder-of : (i : ℕ) → i < rounds g le k → HolderOf g le k (circle g le k i) (named (key g le k) (holder g le k i))
+  pub holder-of : (i : ℕ) → i < rounds g le k → HolderOf g le k (circle g le k i) (named (key g le k) (holder g le k i))
   holder-of i l = go (holder g le k i) refl
     where
       held : Held g le k
@@ -50,14 +50,14 @@ module _ (g : Graph) (o : Lawful g) (le : Relation) (t : Order le) (str : Strict
           let gone : circle g le k i (key g le k j) ≡ false = false-since _ (λ n. omega (arith, nest-key g o le t str k i j lj n .0)) in
           (circle g le k j, c, we, (p, (key g le k j, we .0, gone)), λ S c′ larger. elim (m S c′ (larger .0)) [ inl q ↦ absurd (let (v, n, f) = larger .1 in both-ways (circle g le k i v) f (q v n)) | inr q ↦ q ])
 
-  own-tells : (i : ℕ) → i < rounds g le k → (v : ℕ) → (v ∈ own g le k i → Own (Circle g le k) (circle g le k i) v) × (Own (Circle g le k) (circle g le k i) v → v ∈ own g le k i)
+  pub own-tells : (i : ℕ) → i < rounds g le k → (v : ℕ) → (v ∈ own g le k i → Own (Circle g le k) (circle g le k i) v) × (Own (Circle g le k) (circle g le k i) v → v ∈ own g le k i)
   own-tells i l v =
       let (c, we) = circle-circle g o le t str k i l in
       let tells = dropped-are-own g o le t str k (circle g le k i) (key g le k i) c we in
       let same = own-of-circle g o le t str k i l in
       ((λ m. tells .0 v (subst (λ X. v ∈ X) same m)), (λ x. subst (λ X. v ∈ X) (sym same) (tells .1 v x)))
 
-  vertex-right : (i : ℕ) → i < rounds g le k → VertexOf g le (circle g le k i) (vertexAt g le k i)
+  pub vertex-right : (i : ℕ) → i < rounds g le k → VertexOf g le (circle g le k i) (vertexAt g le k i)
   unfolding vertexAt
   vertex-right i l =
       let (c, we) = circle-circle g o le t str k i l in
@@ -65,14 +65,14 @@ module _ (g : Graph) (o : Lawful g) (le : Relation) (t : Order le) (str : Strict
       record { circled = c; least = we; held = holder-of i l; owned = (rise, λ v. ((λ m. own-tells i l v .0 (holds v .0 m .1)), (λ x. let m = own-tells i l v .1 x in holds v .1 (left-within g o le t str k i v (own-left g o le t str k i v m)) m))) }
 
 module _ (g : Graph) (le : Relation) (str : Strict le) where
-  holder-one : (k : ℕ) (S : Set) (h h′ : Option ℕ) → HolderOf g le k S h → HolderOf g le k S h′ → h ≡ h′
+  pub holder-one : (k : ℕ) (S : Set) (h h′ : Option ℕ) → HolderOf g le k S h → HolderOf g le k S h′ → h ≡ h′
   holder-one k S none none a b = refl
   holder-one k S none (some h′) a (S′, c, we, larger, least) = absurd (a S′ c larger)
   holder-one k S (some h) none (S′, c, we, larger, least) b = absurd (b S′ c larger)
   holder-one k S (some h) (some h′) (S′, c, we, larger, least) (S″, c″, we″, larger″, least″) =
       ap some (str h h′ (we .1 h′ (least″ S′ c larger h′ (we″ .0))) (we″ .1 h (least S″ c″ larger″ h (we .0))))
 
-  vertex-one : (S : Set) (x y : Vertex) → x .k ≡ y .k → VertexOf g le S x → VertexOf g le S y → x ≡ y
+  pub vertex-one : (S : Set) (x y : Vertex) → x .k ≡ y .k → VertexOf g le S x → VertexOf g le S y → x ≡ y
   vertex-one S x y e vx vy = λ i. record { k = e i; weakest = least i; under = under i; persons = persons i }
     where
       least : x .weakest ≡ y .weakest
@@ -84,12 +84,7 @@ module _ (g : Graph) (le : Relation) (str : Strict le) where
       persons : x .persons ≡ y .persons
       persons = list-same (Own (Circle g le (x .k)) S) (x .persons) (y .persons) (vx .owned) (subst (λ k. ListOf (Own (Circle g le k) S) (y .persons)) (sym e) (vy .owned))
 
--- k first, then rising
-Before : Relation → Vertex → Vertex → Type 0
-Before le x y = (x .k < y .k) ⊎ ((x .k ≡ y .k) × Below le (x .weakest) (y .weakest))
-
 before-one-way : (le : Relation) (x y : Vertex) → Before le x y → Before le y x → ⊥
-unfolding Before
 before-one-way le x y (inl l) (inl l′) = omega arith
 before-one-way le x y (inl l) (inr (e, b)) = omega arith
 before-one-way le x y (inr (e, b)) (inl l) = omega arith
@@ -110,14 +105,14 @@ module _ (g : Graph) (o : Lawful g) (le : Relation) (t : Order le) (str : Strict
           (omega arith, (i, subst (λ z. i < rounds g le z) (sym q) b, subst (λ z. x ≡ vertexAt g le z i) (sym q) e))
 
   trees-rise : (a n : ℕ) → Pairwise (Before le) (treesFrom g le a n)
-  unfolding treesFrom treeFor vertexAt Before
+  unfolding treesFrom treeFor vertexAt
   trees-rise a zero = tt
   trees-rise a (suc n) =
       pairwise-append (Before le) (treeFor g le a) (treesFrom g le (suc a) n) (placed-pairwise (vertexAt g le a) (Before le) 0 (rounds g le a) (λ i j l b. inr (refl, keys-rise g o le t str a i j l (omega arith)))) (trees-rise (suc a) n)
       (λ x y m m′. let (i, b, e, q) = among-tree g le a x m in let later = among-trees (suc a) n y m′ .0 in inl (omega arith))
 
   pub tree-of : TreeOf g le (tree g le)
-  unfolding tree Before
+  unfolding tree
   tree-of =
       record {
         each = all-from _ (tree g le) (λ x m. let (l, r) = among-trees 1 (largest (coreNumber g) (g .size)) x m in let (i, b, e) = r in (l, (circle g le (x .k) i, subst (VertexOf g le (circle g le (x .k) i)) (sym e) (vertex-right g o le t str (x .k) i b))));
@@ -140,7 +135,6 @@ part-of-tree g le str us vs tu tv x m =
     subst (λ z. z among vs) (vertex-one g le str S z x e vo′ vo) n
 
 pub tree-is-right : Tree-is-right
-unfolding Before
 tree-is-right g o le t str =
     let this : TreeOf g le (tree g le) = tree-of g o le t str in
     (this, λ vs tv. pairwise-same (Before le) (before-one-way le) vs (tree g le) (tv .rising) (this .rising) (part-of-tree g le str vs (tree g le) tv this) (part-of-tree g le str (tree g le) vs this tv))

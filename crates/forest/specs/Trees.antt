@@ -1,7 +1,8 @@
 -- The tree of a network: a vertex for each circle for each k, with the circle that holds it and its own persons. Assumes nothing.
 --     Vertex                      k, the weakest person, the holder's weakest person or none, the own persons
 --     VertexOf g le S x           x is the vertex of the circle S
---     TreeOf g le vs              vs has one vertex for each circle for each k from 1 on, k first and then rising
+--     Before le x y               x comes first: of a smaller k, or of the same k and weaker
+--     TreeOf g le vs              vs has one vertex for each circle for each k from 1 on, in that order
 --     named f h                   f of the number, if there is one
 --     vertexAt g le k i           the vertex of round i
 --     treeFor g le k              the vertices for k
@@ -37,10 +38,13 @@ pub record VertexOf (g : Graph) (le : Relation) (S : Set) (x : Vertex) : Type 0 
   pub held : HolderOf g le (x .k) S (x .under)
   pub owned : ListOf (Own (Circle g le (x .k)) S) (x .persons)
 
+abbrev pub Before : Relation → Vertex → Vertex → Type 0
+Before le x y = (x .k < y .k) ⊎ ((x .k ≡ y .k) × Below le (x .weakest) (y .weakest))
+
 pub record TreeOf (g : Graph) (le : Relation) (vs : List Vertex) : Type 0 where
   pub each : All (λ x. (1 ≤ x .k) × ((S : Set) × VertexOf g le S x)) vs
   pub every : (k : ℕ) (S : Set) → 1 ≤ k → Circle g le k S → (x : Vertex) × (x among vs) × (x .k ≡ k) × VertexOf g le S x
-  pub rising : Pairwise (λ x y. (x .k < y .k) ⊎ ((x .k ≡ y .k) × Below le (x .weakest) (y .weakest))) vs
+  pub rising : Pairwise (Before le) vs
 
 -- ---- as functions
 

@@ -1,11 +1,10 @@
 -- The bow tie and two pairs: what the checker computes is what the definitions say.
-use mathlib.Core.Path.{ap, refl, subst, _∙_, _≡_}
+use mathlib.Core.Path.{ap, refl, subst, _≡_}
 use mathlib.Core.Bool.{true}
-use mathlib.Core.Logic.{inl, inr}
 use mathlib.Core.List.{[], _∷_}
 use Prim.Native.Nat.{_<_, ℕ}
 use native.Mathlib.Omega.{arith}
-use Rattle.std.proofs.shelf.Tests.{both-ways, cases-eq}
+use Rattle.std.proofs.shelf.Tests.{both-ways}
 use Rattle.theory.specs.Cores.{circleAt, component, coreNumber, IsCore}
 use Rattle.theory.specs.Example.{Bow-tie-core-numbers, Bow-tie-listed, bowTie, byMarks, byPoints, computed, Fallen-neighbour-counts, pairs, Pairs-listed, these, Triangle-is-no-circle, Two-parts-are-no-circle}
 use Rattle.theory.specs.Graphs.{degree, Lawful}
@@ -17,6 +16,7 @@ use Rattle.theory.proofs.Components.{component-greatest}
 use Rattle.theory.proofs.Data.{data-is-lawful}
 use Rattle.theory.proofs.Entries.{listing-is-right}
 use Rattle.theory.proofs.Lists.{all-among, has-among}
+use Rattle.theory.proofs.Members.{members-rise}
 use Rattle.theory.proofs.Numbers.{core-number-is-greatest}
 use Rattle.theory.proofs.Rankings.{tie-broken}
 
@@ -71,10 +71,7 @@ unfolding computed
 bow-tie-core-numbers u l = subst (IsCore bowTie u) (all-among (λ v. coreNumber bowTie v ≡ 2) (0 ∷ 1 ∷ 2 ∷ 3 ∷ 4 ∷ []) u (refl, (refl, (refl, (refl, (refl, tt))))) (five u l)) (core-number-is-greatest bowTie u l .0)
   where
     five : (u : ℕ) → u < 5 → u among (0 ∷ 1 ∷ 2 ∷ 3 ∷ 4 ∷ [])
-    five u l = elim (cases-eq u 0) [
-      | inl e ↦ inl e
-      | inr a ↦ elim (cases-eq u 1) [ inl e ↦ inr (inl e) | inr b ↦ elim (cases-eq u 2) [ inl e ↦ inr (inr (inl e)) | inr c ↦ elim (cases-eq u 3) [ inl e ↦ inr (inr (inr (inl e))) | inr d ↦ inr (inr (inr (inr (inl (omega arith))))) ] ] ]
-    ]
+    five u l = members-rise (λ _. true) 5 .1 u .1 l refl
 
 pub triangle-is-no-circle : Triangle-is-no-circle
 unfolding computed
@@ -82,7 +79,7 @@ triangle-is-no-circle c =
     let S : Set = these (0 ∷ 1 ∷ 2 ∷ []) in
     let we : Weakest byPoints S 0 = (refl, λ v m. all-among (λ v. byPoints 0 v ≡ true) (0 ∷ 1 ∷ 2 ∷ []) v (refl, (refl, (refl, tt))) (has-among v (0 ∷ 1 ∷ 2 ∷ []) .0 m)) in
     let e : S ≡ circleAt bowTie byPoints 2 0 = circle-known bowTie bow-tie-lawful byPoints (points-order .0) (points-order .1) 2 S 0 c we .1 in
-    both-ways (S 3) refl (ap (λ X. X 3) e ∙ refl)
+    both-ways (S 3) refl (ap (λ X. X 3) e)
 
 pub two-parts-are-no-circle : Two-parts-are-no-circle
 unfolding computed

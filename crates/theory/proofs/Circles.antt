@@ -11,8 +11,8 @@ use Rattle.theory.specs.Cores.{above, circleAt, core}
 use Rattle.theory.specs.Graphs.{Connected, Graph, Inside, Lawful, Tight}
 use Rattle.theory.specs.Orders.{Order, Strict, Weakest}
 use Rattle.theory.specs.Sets.{Larger, Relation, Set, _∈_, _⊆_}
-use Rattle.theory.proofs.Components.{component-connected, component-holds, component-part, component-takes, component-tight, component-within}
-use Rattle.theory.proofs.Cores.{core-greatest, core-part, core-tight, core-within}
+use Rattle.theory.proofs.Components.{component-holds, component-part, component-takes, core-group}
+use Rattle.theory.proofs.Cores.{core-greatest, core-part, core-within}
 use Rattle.theory.proofs.Orders.{le-self, weakest-of}
 use Rattle.theory.proofs.Sets.{same-set}
 
@@ -23,14 +23,7 @@ module _ (g : Graph) (o : Lawful g) (le : Relation) (t : Order le) where
 
     pub at-group : Group g k (circleAt g le k w)
     unfolding circleAt
-    at-group =
-        let X : Set = core g k (above le w) in
-        record {
-          inside = component-within g o X w inner c;
-          someone = (w, component-holds g o X w inner c);
-          connected = component-connected g o X w inner c;
-          tight = component-tight g o X w inner c k (core-tight g k (above le w));
-        }
+    at-group = core-group g o k (above le w) w c
 
     pub at-weakest : Weakest le (circleAt g le k w) w
     unfolding circleAt
@@ -60,8 +53,6 @@ module _ (g : Graph) (o : Lawful g) (le : Relation) (t : Order le) where
       let c : w ∈ core g k (above le w) = group-core k S w (ci .group) weak w (weak .0) in
       let part : S ⊆ circleAt g le k w = at-takes k w c S (ci .group) (weak .1) w (weak .0) (at-weakest k w c .0) in
       (c, same-set S (circleAt g le k w) part (ci .whole (circleAt g le k w) (at-group k w c) part (w, w, weak, at-weakest k w c, le-self le t w, le-self le t w)))
-
-  -- ---- T4
 
   pub circle-weakest : (k : ℕ) (S : Set) → Group g k S → (w : ℕ) × Weakest le S w
   circle-weakest k S gr = weakest-of le t S (g .size) (gr .inside) (gr .someone .0) (gr .someone .1)

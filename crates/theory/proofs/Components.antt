@@ -131,7 +131,7 @@ unfolding component
 component-of g X w = times-keeps (λ C. C ⊆ X) (spread g X) (λ C h v m. spread-from g X C v m .0) (g .size) (below (g .size) (λ v. X v && eqb v w)) (λ v m. and-parts (X v) _ (below-from (g .size) _ v m) .0)
 
 module _ (g : Graph) (o : Lawful g) where
-  -- component-is-greatest with a common person are the same
+  -- components with a common person are the same
   pub component-same : (X : Set) → Inside g X → (u v : ℕ) → u ∈ X → v ∈ component g X u → component g X v ≡ component g X u
   component-same X ins u v x m =
       let xv : v ∈ X = component-part g o X u (ins u x) x v m in

@@ -26,7 +26,7 @@ module _ (g : Graph) (o : Lawful g) (k : ℕ) (R : Set) (w : ℕ) (ins : Inside 
   unfolding C
   shut = component-closed g o R w (ins w x) x
 
-  -- the other component-is-greatest stay
+  -- the other components stay
   others : minus R C ⊆ core g k (without R w)
   unfolding C
   others =

@@ -39,10 +39,6 @@ pairwise-kept R q (x ∷ xs) p = go (q x) (pairwise-kept R q xs (p .1))
     go true ih = (all-kept-by q (R x) xs (p .0), ih)
     go false ih = ih
 
-pub pairwise-weaker : {A : Type 0} (R R′ : A → A → Type 0) → ((a b : A) → R a b → R′ a b) → (xs : List A) → Pairwise R xs → Pairwise R′ xs
-pairwise-weaker R R′ h [] p = tt
-pairwise-weaker R R′ h (x ∷ xs) p = (all-weaker (R x) (R′ x) (h x) xs (p .0), pairwise-weaker R R′ h xs (p .1))
-
 pub pairwise-map : {A B : Type 0} (R : A → A → Type 0) (R′ : B → B → Type 0) (f : A → B) → ((a b : A) → R a b → R′ (f a) (f b)) → (xs : List A) → Pairwise R xs → Pairwise R′ (map f xs)
 pairwise-map R R′ f h [] p = tt
 pairwise-map R R′ f h (x ∷ xs) p = (all-map (R′ (f x)) f xs (all-weaker _ _ (λ y r. h x y r) xs (p .0)), pairwise-map R R′ f h xs (p .1))

@@ -17,7 +17,7 @@ use Rattle.theory.proofs.Counting.{count-front, count-mono}
 use Rattle.theory.proofs.Sets.{same-test}
 use Rattle.theory.proofs.Totals.{ends, rows-columns, total-le}
 
--- the core number tells in which core-is-greatest a person is
+-- the core number tells in which cores a person is
 pub number-tells : (g : Graph) (u : ℕ) → u < g .size → (k : ℕ) → (u ∈ core g k (everyone g) → k ≤ coreNumber g u) × (k ≤ coreNumber g u → u ∈ core g k (everyone g))
 unfolding coreNumber
 number-tells g u l zero = ((λ m. omega arith), (λ _. core-greatest g 0 (everyone g) (everyone g) (everyone-within g) (λ _ m. m) (λ _ _. omega arith) u (everyone-in g u l)))

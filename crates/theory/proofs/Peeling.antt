@@ -46,7 +46,7 @@ module _ (le : Relation) (t : Order le) where
       go true e = absurd (both-ways (le u w) (beyond-from w u m .1) (t .chain u v w h e))
       go false e = e
 
--- what peeling-meets-circles-once a set that is the core of an upward set gives
+-- what peeling a set that is the core of an upward set gives
 record Peeled (g : Graph) (le : Relation) (k : ℕ) (B : Set) (es : List (ℕ × Set)) : Type 0 where
   each : All (λ e. (e .0 ∈ B) × Circle g le k (e .1) × Weakest le (e .1) (e .0)) es
   rising : Pairwise (λ e f. Below le (e .0) (f .0)) es

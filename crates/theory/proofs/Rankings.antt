@@ -1,6 +1,6 @@
 -- Ties broken by number, and the orders that a strict order gives.
-use mathlib.Core.Path.{refl, subst, sym, _≡_}
-use mathlib.Core.Bool.{Bool, false, not, true}
+use mathlib.Core.Path.{subst, sym, _≡_}
+use mathlib.Core.Bool.{false, not, true}
 use mathlib.Core.Logic.{inl, inr, _≢_, _⊎_}
 use Prim.Native.Nat.{_<_, ℕ, _≤_}
 use native.Mathlib.Omega.{arith}
@@ -78,14 +78,6 @@ module _ {le : Relation} (wk : Relation) (rk : Ranking le wk) where
   pub weakest-named : (S : Set) (w : ℕ) → Weakest (notAfter wk) S w → Named wk S w
   unfolding notAfter
   weakest-named S w h = (h .0, λ v s d. elim (later w v (not-true (wk v w) (h .1 v s))) [ inl e ↦ absurd (d (sym e)) | inr p ↦ p ])
-
-  pub named-last : (S : Set) (w : ℕ) → Named wk S w → Weakest (notAfter wk) S w
-  unfolding notAfter
-  named-last S w n = (n .0, λ v m. not-from-false (wk v w) (go v m (wk v w) refl))
-    where
-      go : (v : ℕ) → v ∈ S → (b : Bool) → wk v w ≡ b → wk v w ≡ false
-      go v m false e = e
-      go v m true e = rk .one-way w v (n .1 v m (λ s. never wk rk w (rw s at e)))
 
   pub name-of : (S : Set) (n : ℕ) → ((v : ℕ) → v ∈ S → v < n) → (u : ℕ) → u ∈ S → (w : ℕ) × Named wk S w
   name-of S n i u m = let (w, h) = weakest-of (notAfter wk) notAfter-order S n i u m in (w, weakest-named S w h)
