@@ -1,2 +1,4 @@
 pub mod Digits
 pub mod Lines
+pub mod Kinds
+pub mod Frames

@@ -2,6 +2,7 @@
 pub mod digits;
 pub mod fault;
 pub mod frame;
+pub mod kinds;
 pub mod line;
 
 pub use fault::FrameFault;
