@@ -1,1 +1,5 @@
 pub mod Spelling
+pub mod Letters
+pub mod Checks
+pub mod Faithful
+pub mod Fields

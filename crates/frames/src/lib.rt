@@ -4,8 +4,14 @@ pub mod fault;
 pub mod frame;
 pub mod kinds;
 pub mod line;
+pub mod reader;
+pub mod reply;
+pub mod request;
 
 pub use fault::FrameFault;
+pub use fault::Layer;
 pub use fault::LineFault;
 pub use frame::Frame;
 pub use line::Line;
+pub use reply::Reply;
+pub use request::Request;
