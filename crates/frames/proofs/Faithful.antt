@@ -12,6 +12,7 @@ use Rattle.std.specs.declared.result.Result.{Result}
 use Rattle.std.specs.declared.result.Result.the-variants.{Ok, Err}
 use Rattle.std.specs.shelf.Lists.{All}
 use Rattle.std.proofs.shelf.Lists.{take-at, getD-append-left}
+use Rattle.std.proofs.shelf.Tests.{both-ways}
 use Rattle.grades.specs.Places.{Byte}
 use Rattle.frames.specs.declared.fault.FrameFault.{FrameFault}
 use Rattle.frames.specs.declared.fault.FrameFault.the-variants.{Line, UnknownKind}
@@ -49,8 +50,7 @@ pub record Faithful {X : Type 0} (known : ℕ → Bool) (long : ℕ → ℕ) (me
   pub bytes : (q : X) → In q → All Byte (fields q)
   pub kind : (q : X) → known (kindIn (fields q)) ≡ true
   pub size : (q : X) → length (fields q) + 1 ≡ long (kindIn (fields q))
-  pub some : (q : X) → 0 < length (fields q)
-  pub few : (q : X) → length (fields q) < 32
+  pub room : (q : X) → (0 < length (fields q)) × (length (fields q) < 32)
   pub back : (q : X) → In q → meaning (framed (fields q)) ≡ Some q
   pub forth : (bs : List ℕ) (q : X) → All Byte bs → length bs ≡ long (kindIn bs) → meaning bs ≡ Some q → In q × (fields q ≡ take (length bs - 1) bs)
 
@@ -83,8 +83,8 @@ module _ {X : Type 0} (known : ℕ → Bool) (long : ℕ → ℕ) (meaning : Lis
     meant-back q h =
         let bs = framed (fields q) in
         let n = length-framed (fields q) in
-        let some = faithful .some q in
-        let few = faithful .few q in
+        let some = faithful .room q .0 in
+        let few = faithful .room q .1 in
         let same : bytesIn (lineOf bs) ≡ bs = bytes-back bs (framed-bytes (fields q) (faithful .bytes q h)) in
         let kind : kindIn bs ≡ kindIn (fields q) = getD-append-left (fields q) (checkOf (fields q) ∷ []) 0 0 some in
         let frame = frame-granted (known (kindIn bs)) (long (kindIn bs)) bs (ap known kind ∙ faithful .kind q) (n ∙ faithful .size q ∙ ap long (sym kind)) (framed-sum (fields q)) in
@@ -94,3 +94,14 @@ module _ {X : Type 0} (known : ℕ → Bool) (long : ℕ → ℕ) (meaning : Lis
 
     pub exact-of : (cs : List ℕ) → Exact In (λ q. lineOf (framed (fields q))) cs (reading cs)
     exact-of cs = record { only = read-only cs; all = λ q h e. ap reading e ∙ meant-back q h }
+
+  -- where the frame's refusals leave nothing unread, the answer tells the first of them all
+  pub refusal-of : ((bs : List ℕ) → known (kindIn bs) ≡ true → length bs ≡ long (kindIn bs) → isSome (meaning bs) ≡ true) → (cs : List ℕ)
+      → refusalIn (reading cs) ≡ first (lineFault cs) (frameFault (known (kindIn (bytesIn cs))) (long (kindIn (bytesIn cs))) (bytesIn cs))
+  refusal-of meant cs =
+      tells (first (lineFault cs) _) (meaning (bytesIn cs)) (λ e. (let (k, l, t) = frame-means _ _ (bytesIn cs) (first-none (lineFault cs) _ e .1) in meant (bytesIn cs) k l))
+    where
+      tells : (o : Option FrameFault) (m : Option X) → (o ≡ None → isSome m ≡ true) → refusalIn (answered o m) ≡ o
+      tells (Some e) m f = refl
+      tells None (Some x) f = refl
+      tells None None f = absurd (both-ways false refl (f refl))

@@ -3,3 +3,5 @@ pub mod Letters
 pub mod Checks
 pub mod Faithful
 pub mod Fields
+pub mod RequestBytes
+pub mod ReplyBytes
