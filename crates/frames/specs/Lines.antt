@@ -5,7 +5,8 @@
 --     wrongSize n                 no line has n characters: none, an odd number or more than 64
 --     lineFault cs                the first refusal of the line
 --     held f                      the bytes of the frame
---     frameOf bs                  the frame of the bytes; the places behind them are 0
+--     padded bs                   32 places with the bytes in front; those behind are 0
+--     frameOf bs                  the frame of the bytes
 --     frameAfter f cs             what f holds once the line was read into it
 --     shown l                     the characters of the line
 --     typed cs                    the line of the characters; the places behind them are 0
@@ -55,8 +56,11 @@ unless (Some e) y x = x
 abbrev pub held : Frame → List ℕ
 held f = take (f .len) (f .bytes)
 
+abbrev pub padded : List ℕ → List ℕ
+padded bs = bs ++ replicate (32 - length bs) 0
+
 abbrev pub frameOf : List ℕ → Frame
-frameOf bs = record { bytes = bs ++ replicate (32 - length bs) 0; len = length bs }
+frameOf bs = record { bytes = padded bs; len = length bs }
 
 abbrev pub frameAfter : Frame → List ℕ → Frame
 frameAfter f cs = unless (lineFault cs) (frameOf (bytesIn cs)) f

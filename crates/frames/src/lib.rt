@@ -7,6 +7,7 @@ pub mod line;
 pub mod reader;
 pub mod reply;
 pub mod request;
+pub mod writer;
 
 pub use fault::FrameFault;
 pub use fault::Layer;
