@@ -7,3 +7,4 @@ pub mod Refusals
 pub mod Reading
 pub mod Replies
 pub mod Exact
+pub mod Examples

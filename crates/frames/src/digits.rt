@@ -6,7 +6,7 @@ ghost use Rattle.frames.specs.Digits.{digitOf, letterOf};
 use crate::fault::LineFault;
 
 // The number that a digit stands for.
-pub fn digit(c: char) -> Result<u8, LineFault>
+pub(crate) fn digit(c: char) -> Result<u8, LineFault>
     ensures value { λ r. ⌜ r ≡ digitOf c ⌝ }
     ensures bound { λ r. ⌜ Cases r (λ d. d < 16) (λ _. Unit {0}) ⌝ }
 {
@@ -18,7 +18,7 @@ pub fn digit(c: char) -> Result<u8, LineFault>
 }
 
 // The digit of the low half of a byte.
-pub fn letter(b: u8) -> u8
+pub(crate) fn letter(b: u8) -> u8
     ensures { λ r. ⌜ r ≡ letterOf (b % 16) ⌝ }
 {
     let d = b % 16;

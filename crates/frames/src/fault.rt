@@ -39,7 +39,7 @@ pub enum Layer {
     Call,
 }
 
-pub fn layer_number(layer: Layer) -> u8
+pub(crate) fn layer_number(layer: Layer) -> u8
     ensures { λ r. ⌜ r ≡ layerNumber layer ⌝ }
 {
     match layer {

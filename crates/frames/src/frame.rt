@@ -12,27 +12,27 @@ pub struct Frame {
     pub len: usize,
 }
 
-pub fn contents(frame: &Frame) -> &[u8]
+pub(crate) fn contents(frame: &Frame) -> &[u8]
     ensures { λ r. ⌜ now r ≡ held (now (frame .entry)) ⌝ }
 {
     &frame.bytes[0..frame.len.min(32)]
 }
 
 // 0 past the end.
-pub fn byte_at(bytes: &[u8], i: usize) -> u8
+pub(crate) fn byte_at(bytes: &[u8], i: usize) -> u8
     ensures { λ r. ⌜ r ≡ getD (now (bytes .entry)) i 0 ⌝ }
 {
     if i < bytes.len() { bytes[i] } else { 0 }
 }
 
-pub fn word_at(bytes: &[u8], i: u8) -> u16
+pub(crate) fn word_at(bytes: &[u8], i: u8) -> u16
     ensures { λ r. ⌜ r ≡ wordAt (now (bytes .entry)) i ⌝ }
 {
     let i = i as usize;
     u16::from_be_bytes([byte_at(bytes, i), byte_at(bytes, i + 1)])
 }
 
-pub fn long_at(bytes: &[u8], i: u8) -> u32
+pub(crate) fn long_at(bytes: &[u8], i: u8) -> u32
     ensures { λ r. ⌜ r ≡ longAt (now (bytes .entry)) i ⌝ }
 {
     let i = i as usize;
@@ -45,7 +45,7 @@ pub fn long_at(bytes: &[u8], i: u8) -> u32
 }
 
 // The sum of all bytes, but for multiples of 256.
-pub fn sum(bytes: &[u8]) -> u8
+pub(crate) fn sum(bytes: &[u8]) -> u8
     ensures { λ r. ⌜ r ≡ total (now (bytes .entry)) % 256 ⌝ }
 {
     let mut sum = 0u8;
@@ -56,13 +56,13 @@ pub fn sum(bytes: &[u8]) -> u8
 }
 
 // The byte that these lack for their sum to be a multiple of 256.
-pub fn check_byte(bytes: &[u8]) -> u8
+pub(crate) fn check_byte(bytes: &[u8]) -> u8
     ensures { λ r. ⌜ r ≡ checkOf (now (bytes .entry)) ⌝ }
 {
     0u8.wrapping_sub(sum(bytes))
 }
 
-pub fn check(bytes: &[u8], known: bool, length: usize) -> Result<(), FrameFault>
+pub(crate) fn check(bytes: &[u8], known: bool, length: usize) -> Result<(), FrameFault>
     ensures { λ r. ⌜ r ≡ granted (frameFault known length (now (bytes .entry))) ⌝ }
 {
     if !known {

@@ -42,7 +42,7 @@ pub fn read_request<G: Wire>(line: &[u8]) -> Result<Request<G>, FrameFault>
     request_in(frame)
 }
 
-pub fn request_in<G: Wire>(frame: Frame) -> Result<Request<G>, FrameFault>
+fn request_in<G: Wire>(frame: Frame) -> Result<Request<G>, FrameFault>
     ensures { λ r. ⌜ r ≡ answered (requestFault (G·Wire .size) (held frame)) (requestOf (G·Wire .gradeOf) (G·Wire .size) (held frame)) ⌝ }
 {
     let bytes = contents(&frame);
@@ -110,7 +110,7 @@ pub fn read_reply(line: &[u8]) -> Result<Reply, FrameFault>
     reply_in(frame)
 }
 
-pub fn reply_in(frame: Frame) -> Result<Reply, FrameFault>
+fn reply_in(frame: Frame) -> Result<Reply, FrameFault>
     ensures { λ r. ⌜ r ≡ answered (replyFault (held frame)) (replyOf (held frame)) ⌝ }
 {
     let bytes = contents(&frame);

@@ -96,7 +96,7 @@ fn request_fields<G: Wire>(request: &Request<G>) -> [u8; 32]
     }
 }
 
-pub fn request_frame<G: Wire>(request: &Request<G>) -> Frame
+fn request_frame<G: Wire>(request: &Request<G>) -> Frame
     ensures value { λ r. ⌜ r ≡ frameOf (framed (requestBytes (G·Wire .bytesOf) (now (request .entry)))) ⌝ }
     ensures ranged { λ _. ⌜ Typed (G·Wire .InRange) (now (request .entry)) ⌝ }
 {
@@ -147,7 +147,7 @@ fn reply_fields(reply: &Reply) -> [u8; 32]
     }
 }
 
-pub fn reply_frame(reply: &Reply) -> Frame
+fn reply_frame(reply: &Reply) -> Frame
     ensures value { λ r. ⌜ r ≡ frameOf (framed (replyBytes (now (reply .entry)))) ⌝ }
     ensures ranged { λ _. ⌜ Held (now (reply .entry)) ⌝ }
 {
