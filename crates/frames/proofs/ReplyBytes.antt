@@ -19,7 +19,7 @@ use Rattle.frames.specs.declared.reply.Reply.the-variants.{Done, Entries, Circ
 use Rattle.frames.specs.Frames.{kindIn, bytes16, wordAt, longAt, framed}
 use Rattle.frames.specs.Kinds.{isReply, tableLength}
 use Rattle.frames.specs.Refusals.{layerNumber}
-use Rattle.frames.specs.Replies.{replyBytes, replyOf, layerOf, refusalFrom, Held}
+use Rattle.frames.specs.Replies.{replyBytes, replyOf, layerOf, refusalFrom, ReplyFits}
 use Rattle.frames.proofs.Faithful.{Faithful}
 use Rattle.frames.proofs.Fields.{byte-at, word-back, long-back, word-bytes, long-bytes, word-at, long-at, landed, no-field, one-byte, one-word, two-words, one-long, two-bytes-long, either-kind}
 
@@ -28,7 +28,7 @@ layer-byte layer.Line = omega arith
 layer-byte layer.Frame = omega arith
 layer-byte layer.Call = omega arith
 
-reply-bytes : (p : Reply) → Held p → All Byte (replyBytes p)
+reply-bytes : (p : Reply) → ReplyFits p → All Byte (replyBytes p)
 reply-bytes (Done k) h = (omega arith, (h, tt))
 reply-bytes (Entries n) h = (omega arith, long-bytes n)
 reply-bytes (Circle w m) h = (omega arith, all-append Byte (bytes16 w) (bytes16 m) (word-bytes w) (word-bytes m))
@@ -73,7 +73,7 @@ layer-back layer.Line = refl
 layer-back layer.Frame = refl
 layer-back layer.Call = refl
 
-reply-back : (p : Reply) → Held p → replyOf (framed (replyBytes p)) ≡ Some p
+reply-back : (p : Reply) → ReplyFits p → replyOf (framed (replyBytes p)) ≡ Some p
 reply-back (Done k) h = refl
 reply-back (Entries n) h = ap (λ x. Some (Entries x)) (long-back n h)
 reply-back (Circle w m) h = ap (λ x. Some (Circle x (wordAt (framed (replyBytes (Circle w m))) 3))) (word-back w (h .0)) ∙ ap (λ x. Some (Circle w x)) (word-back m (h .1))
@@ -101,7 +101,7 @@ layer-forth b l e =
 
 module _ (bs : List ℕ) (h : All Byte bs) (p : Reply) where
   abbrev Fits : Reply → Type 0
-  Fits x = Held x × (replyBytes x ≡ take (length bs - 1) bs)
+  Fits x = ReplyFits x × (replyBytes x ≡ take (length bs - 1) bs)
 
   first-word : wordAt bs 1 < 65536
   first-word = word-at bs h 1 .0
@@ -150,7 +150,7 @@ module _ (bs : List ℕ) (h : All Byte bs) (p : Reply) where
             ]
       ]
 
-pub replies-faithful : Faithful isReply tableLength replyOf replyBytes Held
+pub replies-faithful : Faithful isReply tableLength replyOf replyBytes ReplyFits
 replies-faithful = record {
   bytes = reply-bytes;
   kind = reply-kind;

@@ -22,7 +22,7 @@ use Rattle.frames.specs.Exact.{Exact, refusalIn, requestLine}
 use Rattle.frames.specs.Frames.{kindIn, bytes16, wordAt, framed, checkOf}
 use Rattle.frames.specs.Kinds.{isRequest, lengthOf}
 use Rattle.frames.specs.Reading.{readRequest, requestRefusal}
-use Rattle.frames.specs.Requests.{requestBytes, requestAs, requestOf, regraded, Typed}
+use Rattle.frames.specs.Requests.{requestBytes, requestAs, requestOf, regraded, RequestFits}
 use Rattle.frames.proofs.Faithful.{Faithful, exact-of, refusal-of}
 use Rattle.frames.proofs.Fields.{byte-at, word-back, word-bytes, word-at, landed, no-field, one-word, two-words, two-words-byte, one-word-rest, either-kind, some-kind}
 
@@ -37,7 +37,7 @@ pub record Encoded {G : Type 0} (In : G → Type 0) (put : G → List ℕ) (get 
   pub known : (bs : List ℕ) → length bs ≡ size → isSome (get bs) ≡ true
 
 module _ {G : Type 0} (In : G → Type 0) (put : G → List ℕ) (get : List ℕ → Option G) (size : ℕ) (law : Encoded In put get size) where
-  request-bytes : (q : Request G) → Typed In q → All Byte (requestBytes put q)
+  request-bytes : (q : Request G) → RequestFits In q → All Byte (requestBytes put q)
   request-bytes (Open n) h = (omega arith, word-bytes n)
   request-bytes (Regrade p g) h = (omega arith, all-append Byte (bytes16 p) (put g) (word-bytes p) (law .whole g (h .1)))
   request-bytes (Link u v) h = (omega arith, all-append Byte (bytes16 u) (bytes16 v) (word-bytes u) (word-bytes v))
@@ -81,7 +81,7 @@ module _ {G : Type 0} (In : G → Type 0) (put : G → List ℕ) (get : List ℕ
   request-room Cores = (omega arith, omega arith)
   request-room (Holder k p) = (omega arith, omega arith)
 
-  request-back : (q : Request G) → Typed In q → requestOf get size (framed (requestBytes put q)) ≡ Some q
+  request-back : (q : Request G) → RequestFits In q → requestOf get size (framed (requestBytes put q)) ≡ Some q
   request-back (Open n) h = ap (λ x. Some (Open x)) (word-back n h)
   request-back (Regrade p g) h =
       ap (λ x. regraded x (get (take size (put g ++ checkOf (requestBytes put (Regrade p g)) ∷ [])))) (word-back p (h .0))
@@ -96,7 +96,7 @@ module _ {G : Type 0} (In : G → Type 0) (put : G → List ℕ) (get : List ℕ
 
   module _ (bs : List ℕ) (h : All Byte bs) (q : Request G) where
     abbrev Fits : Request G → Type 0
-    Fits x = Typed In x × (requestBytes put x ≡ take (length bs - 1) bs)
+    Fits x = RequestFits In x × (requestBytes put x ≡ take (length bs - 1) bs)
 
     first-word : wordAt bs 1 < 65536
     first-word = word-at bs h 1 .0
@@ -150,7 +150,7 @@ module _ {G : Type 0} (In : G → Type 0) (put : G → List ℕ) (get : List ℕ
               ]
         ]
 
-  pub requests-faithful : Faithful isRequest (lengthOf size) (requestOf get size) (requestBytes put) (Typed In)
+  pub requests-faithful : Faithful isRequest (lengthOf size) (requestOf get size) (requestBytes put) (RequestFits In)
   requests-faithful = record {
     bytes = request-bytes;
     kind = request-kind;
@@ -188,11 +188,11 @@ module _ {G : Type 0} (In : G → Type 0) (put : G → List ℕ) (get : List ℕ
   pub record Told (cs : List ℕ) (r : Result (Request G) FrameFault) : Type 0 where
     pub answer : r ≡ readRequest get size cs
     pub refusal : refusalIn r ≡ requestRefusal size cs
-    pub exact : Exact (Typed In) (requestLine put) cs r
+    pub exact : Exact (RequestFits In) (requestLine put) cs r
 
   pub told : (cs : List ℕ) (r : Result (Request G) FrameFault) → r ≡ readRequest get size cs → Told cs r
   told cs r e = record {
     answer = e;
     refusal = ap refusalIn e ∙ refusal-of isRequest (lengthOf size) (requestOf get size) request-meant cs;
-    exact = subst (Exact (Typed In) (requestLine put) cs) (sym e) (exact-of isRequest (lengthOf size) (requestOf get size) (requestBytes put) (Typed In) requests-faithful cs);
+    exact = subst (Exact (RequestFits In) (requestLine put) cs) (sym e) (exact-of isRequest (lengthOf size) (requestOf get size) (requestBytes put) (RequestFits In) requests-faithful cs);
   }

@@ -10,7 +10,7 @@ use Rattle.grades.specs.Places.{onto}
 use Rattle.frames.specs.declared.frame.Frame.{Frame}
 use Rattle.frames.specs.Frames.{framed, checkOf, bytes16}
 use Rattle.frames.specs.declared.line.Line.{Line}
-use Rattle.frames.specs.Lines.{padded, frameOf, held, lineOf, typed}
+use Rattle.frames.specs.Lines.{padded, frameOf, held, lineOf, typed, shown}
 use Rattle.frames.proofs.Checks.{length-framed}
 
 pub sealed : (xs bs : List ℕ) (n c : ℕ) → n ≤ 32 → length xs + 1 ≡ n → bs ≡ padded xs → c ≡ checkOf (take (n - 1) bs) → _≡_ {A = Frame} (record { bytes = set bs (n - 1) c; len = n }) (frameOf (framed xs))
@@ -40,6 +40,9 @@ grade-written k p row places xs e w h =
     let n : 29 - length xs ≡ 32 - length (k ∷ bytes16 p ++ xs) = omega arith in
     ap (λ r. putMid 3 29 r places) e
     ∙ ap (λ r. k ∷ bytes16 p ++ r) (append-nil places ∙ w ∙ ap (λ r. onto xs (take 29 (drop 3 r))) e ∙ onto-zeros xs 29 (omega arith) ∙ ap (λ j. xs ++ replicate j 0) n)
+
+pub shown-typed : (cs : List ℕ) → shown (typed cs) ≡ cs
+shown-typed cs = take-at cs (replicate (64 - length cs) 0) (length cs) refl
 
 pub line-written : (f : Frame) (l : Line) (bs : List ℕ) → l ≡ typed (lineOf (held f)) → f ≡ frameOf bs → l ≡ typed (lineOf bs)
 line-written f l bs e p = e ∙ ap (λ g. typed (lineOf (held g))) p ∙ ap (λ x. typed (lineOf x)) (held-frame bs)

@@ -3,7 +3,7 @@
 --     replyBytes p                its kind and fields
 --     layerOf b                   the layer of that number
 --     replyOf bs                  the reply whose kind and fields stand in the bytes
---     Held p                      the fields are in the range of their types
+--     ReplyFits p                      the fields are in the range of their types
 use mathlib.Core.List.{List, [], _∷_, _++_}
 use mathlib.Core.Bool.{cond}
 use Prim.Native.Nat.{ℕ, _<_}
@@ -60,12 +60,12 @@ replyAs kind bs =
 abbrev pub replyOf : List ℕ → Option Reply
 replyOf bs = replyAs (kindIn bs) bs
 
-abbrev pub Held : Reply → Type 0
-Held (Done kind) = kind < 256
-Held (Entries count) = count < 4294967296
-Held (Circle weakest members) = (weakest < 65536) × (members < 65536)
-Held (Member person) = person < 65536
-Held (Core person number) = (person < 65536) × (number < 65536)
-Held (Holder person) = person < 65536
-Held NoHolder = Unit {0}
-Held (Refusal number from line) = (number < 256) × (line < 4294967296)
+abbrev pub ReplyFits : Reply → Type 0
+ReplyFits (Done kind) = kind < 256
+ReplyFits (Entries count) = count < 4294967296
+ReplyFits (Circle weakest members) = (weakest < 65536) × (members < 65536)
+ReplyFits (Member person) = person < 65536
+ReplyFits (Core person number) = (person < 65536) × (number < 65536)
+ReplyFits (Holder person) = person < 65536
+ReplyFits NoHolder = Unit {0}
+ReplyFits (Refusal number from line) = (number < 256) × (line < 4294967296)

@@ -2,7 +2,7 @@
 --     requestKind q               the kind of the request
 --     requestBytes put q          its kind and fields, where put g are the bytes of the grade g
 --     requestOf get size bs       the request whose kind and fields stand in the bytes, where get gives the grade of size bytes
---     Typed In q                  the fields are in the range of their types, a grade where it meets In
+--     RequestFits In q                  the fields are in the range of their types, a grade where it meets In
 use mathlib.Core.List.{List, [], _∷_, _++_}
 use mathlib.Core.Bool.{cond}
 use Prim.Native.Nat.{ℕ, _<_}
@@ -55,13 +55,13 @@ requestAs get size kind bs =
 abbrev pub requestOf : {G : Type 0} → (List ℕ → Option G) → ℕ → List ℕ → Option (Request G)
 requestOf get size bs = requestAs get size (kindIn bs) bs
 
-abbrev pub Typed : {G : Type 0} → (G → Type 0) → Request G → Type 0
-Typed In (Open n) = n < 65536
-Typed In (Regrade person grade) = (person < 65536) × In grade
-Typed In (Link u v) = (u < 65536) × (v < 65536)
-Typed In (Unlink u v) = (u < 65536) × (v < 65536)
-Typed In (Peel k r choice) = (k < 65536) × (r < 65536) × (choice < 256)
-Typed In Plant = Unit {0}
-Typed In (Pick k r choice) = (k < 65536) × (r < 65536) × (choice < 256)
-Typed In Cores = Unit {0}
-Typed In (Holder k person) = (k < 65536) × (person < 65536)
+abbrev pub RequestFits : {G : Type 0} → (G → Type 0) → Request G → Type 0
+RequestFits In (Open n) = n < 65536
+RequestFits In (Regrade person grade) = (person < 65536) × In grade
+RequestFits In (Link u v) = (u < 65536) × (v < 65536)
+RequestFits In (Unlink u v) = (u < 65536) × (v < 65536)
+RequestFits In (Peel k r choice) = (k < 65536) × (r < 65536) × (choice < 256)
+RequestFits In Plant = Unit {0}
+RequestFits In (Pick k r choice) = (k < 65536) × (r < 65536) × (choice < 256)
+RequestFits In Cores = Unit {0}
+RequestFits In (Holder k person) = (k < 65536) × (person < 65536)

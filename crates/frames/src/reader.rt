@@ -4,8 +4,8 @@ ghost use lib.ListN.{length};
 ghost use Rattle.frames.specs.Lines.{held};
 ghost use Rattle.frames.specs.Frames.{kindIn};
 ghost use Rattle.frames.specs.Kinds.{lengthOf};
-ghost use Rattle.frames.specs.Requests.{requestOf, Typed};
-ghost use Rattle.frames.specs.Replies.{layerOf, replyOf, Held};
+ghost use Rattle.frames.specs.Requests.{requestOf, RequestFits};
+ghost use Rattle.frames.specs.Replies.{layerOf, replyOf, ReplyFits};
 ghost use Rattle.frames.specs.Refusals.{requestFault, replyFault, answered};
 ghost use Rattle.frames.specs.Exact.{Exact, refusalIn, requestLine, replyLine};
 ghost use Rattle.frames.specs.Reading.{readRequest, requestRefusal, readReply};
@@ -32,7 +32,7 @@ use grades::Wire;
 pub fn read_request<G: Wire>(line: &[u8]) -> Result<Request<G>, FrameFault>
     ensures answer { λ r. ⌜ r ≡ readRequest (G·Wire .gradeOf) (G·Wire .size) (now (line .entry)) ⌝ }
     ensures refusal { λ r. ⌜ refusalIn r ≡ requestRefusal (G·Wire .size) (now (line .entry)) ⌝ }
-    ensures exact { λ r. ⌜ Exact (Typed (G·Wire .InRange)) (requestLine (G·Wire .bytesOf)) (now (line .entry)) r ⌝ }
+    ensures exact { λ r. ⌜ Exact (RequestFits (G·Wire .InRange)) (requestLine (G·Wire .bytesOf)) (now (line .entry)) r ⌝ }
 {
     let mut frame = Frame {
         bytes: [0; 32],
@@ -100,7 +100,7 @@ fn request_of<G: Wire>(bytes: &[u8]) -> Option<Request<G>>
 
 pub fn read_reply(line: &[u8]) -> Result<Reply, FrameFault>
     ensures answer { λ r. ⌜ r ≡ readReply (now (line .entry)) ⌝ }
-    ensures exact { λ r. ⌜ Exact Held replyLine (now (line .entry)) r ⌝ }
+    ensures exact { λ r. ⌜ Exact ReplyFits replyLine (now (line .entry)) r ⌝ }
 {
     let mut frame = Frame {
         bytes: [0; 32],

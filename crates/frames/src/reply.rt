@@ -35,7 +35,7 @@ pub enum Reply {
 }
 
 impl Reply {
-    pub fn kind(&self) -> u8
+    pub(crate) fn kind(&self) -> u8
         ensures { λ r. ⌜ r ≡ replyKind (now (self .entry)) ⌝ }
     {
         match self {

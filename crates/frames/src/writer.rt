@@ -7,9 +7,9 @@ ghost use Rattle.grades.specs.Encoding.{bytes32};
 ghost use Rattle.grades.specs.Places.{onto};
 ghost use Rattle.frames.specs.Lines.{padded, frameOf, typed};
 ghost use Rattle.frames.specs.Frames.{bytes16, framed};
-ghost use Rattle.frames.specs.Requests.{requestBytes, Typed};
+ghost use Rattle.frames.specs.Requests.{requestBytes, RequestFits};
 ghost use Rattle.frames.specs.Refusals.{layerNumber};
-ghost use Rattle.frames.specs.Replies.{replyBytes, Held};
+ghost use Rattle.frames.specs.Replies.{replyBytes, ReplyFits};
 ghost use Rattle.frames.specs.Exact.{requestLine, replyLine};
 use crate::fault::Layer;
 use crate::fault::layer_number;
@@ -80,7 +80,7 @@ fn regrade<G: Wire>(kind: u8, person: u16, grade: &G) -> [u8; 32]
 
 fn request_fields<G: Wire>(request: &Request<G>) -> [u8; 32]
     ensures bytes { λ r. ⌜ r ≡ padded (requestBytes (G·Wire .bytesOf) (now (request .entry))) ⌝ }
-    ensures ranged { λ _. ⌜ Typed (G·Wire .InRange) (now (request .entry)) ⌝ }
+    ensures ranged { λ _. ⌜ RequestFits (G·Wire .InRange) (now (request .entry)) ⌝ }
 {
     let kind = request.kind();
     match *request {
@@ -98,14 +98,14 @@ fn request_fields<G: Wire>(request: &Request<G>) -> [u8; 32]
 
 fn request_frame<G: Wire>(request: &Request<G>) -> Frame
     ensures value { λ r. ⌜ r ≡ frameOf (framed (requestBytes (G·Wire .bytesOf) (now (request .entry)))) ⌝ }
-    ensures ranged { λ _. ⌜ Typed (G·Wire .InRange) (now (request .entry)) ⌝ }
+    ensures ranged { λ _. ⌜ RequestFits (G·Wire .InRange) (now (request .entry)) ⌝ }
 {
     seal(request_fields(request), length_of::<G>(request.kind()))
 }
 
 pub fn write_request<G: Wire>(request: &Request<G>) -> Line
     ensures value { λ r. ⌜ r ≡ typed (requestLine (G·Wire .bytesOf) (now (request .entry))) ⌝ }
-    ensures ranged { λ _. ⌜ Typed (G·Wire .InRange) (now (request .entry)) ⌝ }
+    ensures ranged { λ _. ⌜ RequestFits (G·Wire .InRange) (now (request .entry)) ⌝ }
 {
     write_line(request_frame(request))
 }
@@ -128,7 +128,7 @@ fn entries(kind: u8, count: u32) -> [u8; 32]
 
 fn reply_fields(reply: &Reply) -> [u8; 32]
     ensures bytes { λ r. ⌜ r ≡ padded (replyBytes (now (reply .entry))) ⌝ }
-    ensures ranged { λ _. ⌜ Held (now (reply .entry)) ⌝ }
+    ensures ranged { λ _. ⌜ ReplyFits (now (reply .entry)) ⌝ }
 {
     let kind = reply.kind();
     match *reply {
@@ -149,14 +149,14 @@ fn reply_fields(reply: &Reply) -> [u8; 32]
 
 fn reply_frame(reply: &Reply) -> Frame
     ensures value { λ r. ⌜ r ≡ frameOf (framed (replyBytes (now (reply .entry)))) ⌝ }
-    ensures ranged { λ _. ⌜ Held (now (reply .entry)) ⌝ }
+    ensures ranged { λ _. ⌜ ReplyFits (now (reply .entry)) ⌝ }
 {
     seal(reply_fields(reply), table_length(reply.kind()))
 }
 
 pub fn write_reply(reply: &Reply) -> Line
     ensures value { λ r. ⌜ r ≡ typed (replyLine (now (reply .entry))) ⌝ }
-    ensures ranged { λ _. ⌜ Held (now (reply .entry)) ⌝ }
+    ensures ranged { λ _. ⌜ ReplyFits (now (reply .entry)) ⌝ }
 {
     write_line(reply_frame(reply))
 }
