@@ -1,0 +1,8 @@
+pub mod Spelling
+pub mod Letters
+pub mod Checks
+pub mod Faithful
+pub mod Fields
+pub mod Sealing
+pub mod RequestBytes
+pub mod ReplyBytes

@@ -1,0 +1,10 @@
+pub mod Digits
+pub mod Lines
+pub mod Kinds
+pub mod Frames
+pub mod Requests
+pub mod Refusals
+pub mod Reading
+pub mod Replies
+pub mod Exact
+pub mod Examples
