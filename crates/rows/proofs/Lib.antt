@@ -1,0 +1,3 @@
+pub mod Standing
+pub mod Fronts
+pub mod Sieve

@@ -1,0 +1,69 @@
+// Rows of 16-bit numbers in memory: reading one, and a number put in or taken out.
+ghost use mathlib.Core.Path.{_≡_};
+ghost use Prim.Native.Nat.{ℕ, _+_, _*_, _^_, _<_, _≤_};
+ghost use lib.ListN.{length, getD, take};
+ghost use Rattle.grades.specs.Places.{onto};
+ghost use Rattle.rows.specs.Row.{has, rowOf, Rising};
+ghost use Rattle.std.specs.Finite.{nth};
+
+// The row of u.
+pub(crate) fn row_of<'a>(counts: &[u16], cells: &'a [u16], span: usize, u: usize) -> &'a [u16]
+    requires known { ⌜ u < length (now counts) ⌝ }
+    requires small { ⌜ u * span < 2 ^ 32 ⌝ }
+    requires within { ⌜ getD (now counts) u 0 ≤ span ⌝ }
+    requires roomy { ⌜ u * span + span ≤ length (now cells) ⌝ }
+    ensures { λ r. ⌜ now r ≡ rowOf span (now (counts .entry)) (now (cells .entry)) u ⌝ }
+{
+    let first = u * span;
+    &cells[first..first + counts[u] as usize]
+}
+
+// How many of a rising row are below v.
+pub(crate) fn place(row: &[u16], v: usize) -> usize
+    requires { ⌜ Rising (now row) ⌝ }
+    ensures within { λ r. ⌜ r ≤ length (now (row .entry)) ⌝ }
+    ensures below { λ r. ⌜ ((k : ℕ) → k < r → getD (now (row .entry)) k 0 < v) ⌝ }
+    ensures above { λ r. ⌜ ((k : ℕ) → r ≤ k → k < length (now (row .entry)) → v ≤ getD (now (row .entry)) k 0) ⌝ }
+{
+    let mut low = 0;
+    let mut high = row.len();
+    while low < high {
+        let mid = low + (high - low) / 2;
+        if (row[mid] as usize) < v {
+            low = mid + 1;
+        } else {
+            high = mid;
+        }
+    }
+    low
+}
+
+pub(crate) fn stands(row: &[u16], v: usize) -> bool
+    requires { ⌜ Rising (now row) ⌝ }
+    ensures { λ r. ⌜ r ≡ has v (now (row .entry)) ⌝ }
+{
+    let at = place(row, v);
+    at < row.len() && row[at] as usize == v
+}
+
+pub(crate) fn number(row: &[u16], i: usize) -> Option<usize>
+    ensures { λ r. ⌜ r ≡ nth (now (row .entry)) i ⌝ }
+{
+    if i < row.len() { Some(row[i] as usize) } else { None }
+}
+
+pub(crate) fn copy(row: &[u16], places: &mut [u32])
+    ensures { λ _. ⌜ now (places .exit) ≡ onto (now (row .entry)) (now (places .entry)) ⌝ }
+{
+    for i in 0..row.len().min(places.len()) {
+        places[i] = row[i] as u32;
+    }
+}
+
+// The u-th of the first n.
+pub(crate) fn item<G: Copy>(items: &[G], n: usize, u: usize) -> Option<G>
+    requires { ⌜ n ≤ length (now items) ⌝ }
+    ensures { λ r. ⌜ r ≡ nth (take n (now (items .entry))) u ⌝ }
+{
+    if u < n { Some(items[u]) } else { None }
+}
