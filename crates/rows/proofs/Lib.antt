@@ -1,3 +1,5 @@
 pub mod Standing
 pub mod Fronts
 pub mod Sieve
+pub mod Stretches
+pub mod Neighbourhoods

@@ -1,6 +1,8 @@
 // Adjacency rows: a network whose persons each have a row of numbers, free behind its count.
 mod cells;
+pub mod reading;
 pub mod rows;
 
+pub use reading::RowsNetwork;
 pub use rows::AdjacencyRows;
 pub use rows::RowsMemory;
