@@ -3,3 +3,4 @@ pub mod Fronts
 pub mod Sieve
 pub mod Stretches
 pub mod Neighbourhoods
+pub mod Shifts

@@ -1,10 +1,12 @@
 // Rows of 16-bit numbers in memory: reading one, and a number put in or taken out.
 ghost use mathlib.Core.Path.{_≡_};
-ghost use Prim.Native.Nat.{ℕ, _+_, _*_, _^_, _<_, _≤_};
-ghost use lib.ListN.{length, getD, take};
+ghost use mathlib.Core.List.{_++_};
+ghost use Prim.Native.Nat.{ℕ, _+_, _-_, _*_, _^_, _<_, _≤_};
+ghost use lib.ListN.{length, getD, set, take, drop};
 ghost use Rattle.grades.specs.Places.{onto};
-ghost use Rattle.rows.specs.Row.{has, rowOf, Rising};
+ghost use Rattle.rows.specs.Row.{has, Rising, placeOf, entered, leaving, rowOf, writtenAt};
 ghost use Rattle.std.specs.Finite.{nth};
+ghost use Rattle.std.specs.shelf.Lists.{inserted, removed};
 
 // The row of u.
 pub(crate) fn row_of<'a>(counts: &[u16], cells: &'a [u16], span: usize, u: usize) -> &'a [u16]
@@ -21,6 +23,7 @@ pub(crate) fn row_of<'a>(counts: &[u16], cells: &'a [u16], span: usize, u: usize
 // How many of a rising row are below v.
 pub(crate) fn place(row: &[u16], v: usize) -> usize
     requires { ⌜ Rising (now row) ⌝ }
+    ensures value { λ r. ⌜ r ≡ placeOf v (now (row .entry)) ⌝ }
     ensures within { λ r. ⌜ r ≤ length (now (row .entry)) ⌝ }
     ensures below { λ r. ⌜ ((k : ℕ) → k < r → getD (now (row .entry)) k 0 < v) ⌝ }
     ensures above { λ r. ⌜ ((k : ℕ) → r ≤ k → k < length (now (row .entry)) → v ≤ getD (now (row .entry)) k 0) ⌝ }
@@ -66,4 +69,27 @@ pub(crate) fn item<G: Copy>(items: &[G], n: usize, u: usize) -> Option<G>
     ensures { λ r. ⌜ r ≡ nth (take n (now (items .entry))) u ⌝ }
 {
     if u < n { Some(items[u]) } else { None }
+}
+
+// v put in at a place; the numbers from there on move up, and the last place is given up.
+fn insert(row: &mut [u16], at: usize, v: u16)
+    requires { ⌜ at < length (now row) ⌝ }
+    ensures { λ _. ⌜ now (row .exit) ≡ inserted (take (length (now (row .entry)) - 1) (now (row .entry))) at v ⌝ }
+{
+    let mut i = row.len() - 1;
+    while i > at {
+        row[i] = row[i - 1];
+        i -= 1;
+    }
+    row[at] = v;
+}
+
+// The number at a place taken out; those behind move down, and the last place keeps its own.
+fn remove(row: &mut [u16], at: usize)
+    requires { ⌜ at < length (now row) ⌝ }
+    ensures { λ _. ⌜ now (row .exit) ≡ removed (now (row .entry)) at ++ drop (length (now (row .entry)) - 1) (now (row .entry)) ⌝ }
+{
+    for i in at..row.len() - 1 {
+        row[i] = row[i + 1];
+    }
 }
