@@ -4,3 +4,4 @@ pub mod Sieve
 pub mod Stretches
 pub mod Neighbourhoods
 pub mod Shifts
+pub mod Overwriting

@@ -1,5 +1,6 @@
 // Rows of 16-bit numbers in memory: reading one, and a number put in or taken out.
 ghost use mathlib.Core.Path.{_≡_};
+ghost use mathlib.Core.Bool.{true};
 ghost use mathlib.Core.List.{_++_};
 ghost use Prim.Native.Nat.{ℕ, _+_, _-_, _*_, _^_, _<_, _≤_};
 ghost use lib.ListN.{length, getD, set, take, drop};
@@ -92,4 +93,39 @@ fn remove(row: &mut [u16], at: usize)
     for i in at..row.len() - 1 {
         row[i] = row[i + 1];
     }
+}
+
+// v put into the row of u.
+pub(crate) fn put_in(counts: &mut [u16], cells: &mut [u16], span: usize, u: usize, v: usize)
+    requires known { ⌜ u < length (now counts) ⌝ }
+    requires small { ⌜ u * span < 2 ^ 32 ⌝ ∗ ⌜ span ≤ 4095 ⌝ ∗ ⌜ v < 2 ^ 16 ⌝ }
+    requires room { ⌜ getD (now counts) u 0 < span ⌝ }
+    requires roomy { ⌜ u * span + span ≤ length (now cells) ⌝ }
+    requires rising { ⌜ Rising (rowOf span (now counts) (now cells) u) ⌝ }
+    ensures counts { λ _. ⌜ now (counts .exit) ≡ set (now (counts .entry)) u (length (entered v (rowOf span (now (counts .entry)) (now (cells .entry)) u))) ⌝ }
+    ensures cells { λ _. ⌜ now (cells .exit) ≡ writtenAt (u * span) (entered v (rowOf span (now (counts .entry)) (now (cells .entry)) u)) (now (cells .entry)) ⌝ }
+{
+    let first = u * span;
+    let count = counts[u] as usize;
+    let at = place(&cells[first..first + count], v);
+    insert(&mut cells[first..first + count + 1], at, v as u16);
+    counts[u] = count as u16 + 1;
+}
+
+// v taken out of the row of u.
+pub(crate) fn take_out(counts: &mut [u16], cells: &mut [u16], span: usize, u: usize, v: usize)
+    requires known { ⌜ u < length (now counts) ⌝ }
+    requires small { ⌜ u * span < 2 ^ 32 ⌝ }
+    requires within { ⌜ getD (now counts) u 0 ≤ span ⌝ }
+    requires roomy { ⌜ u * span + span ≤ length (now cells) ⌝ }
+    requires rising { ⌜ Rising (rowOf span (now counts) (now cells) u) ⌝ }
+    requires stands { ⌜ has v (rowOf span (now counts) (now cells) u) ≡ true ⌝ }
+    ensures counts { λ _. ⌜ now (counts .exit) ≡ set (now (counts .entry)) u (length (leaving v (rowOf span (now (counts .entry)) (now (cells .entry)) u))) ⌝ }
+    ensures cells { λ _. ⌜ now (cells .exit) ≡ writtenAt (u * span) (leaving v (rowOf span (now (counts .entry)) (now (cells .entry)) u)) (now (cells .entry)) ⌝ }
+{
+    let first = u * span;
+    let count = counts[u] as usize;
+    let at = place(&cells[first..first + count], v);
+    remove(&mut cells[first..first + count], at);
+    counts[u] = count as u16 - 1;
 }
