@@ -5,3 +5,9 @@ pub mod Stretches
 pub mod Neighbourhoods
 pub mod Shifts
 pub mod Overwriting
+pub mod Keeping
+pub mod Tidying
+pub mod Rewriting
+pub mod Pairing
+pub mod Linking
+pub mod Grading

@@ -6,13 +6,15 @@
 --     entered v xs                xs with v put in at its place
 --     leaving v xs                xs with the number at the place of v taken out
 --     rowOf span counts cells u   the row of u: as many as its count, from the place u * span on
+--     Ready span counts cells u   the row of u lies in memory, is no longer than the span, and rises
 --     writtenAt i xs cells        cells with xs written from the place i on
+--     Rewritten edit span u counts cells counts′ cells′     the row of u is edited, its count too, and all else stays
 use mathlib.Core.Path.{_≡_}
 use mathlib.Core.Bool.{Bool, false, _||_}
 use mathlib.Core.List.{List, [], _∷_, _++_}
-use Prim.Native.Nat.{ℕ, _+_, _*_, _<_}
+use Prim.Native.Nat.{ℕ, _+_, _*_, _^_, _<_, _≤_}
 use lib.Dec.{eqb, ltb}
-use lib.ListN.{length, getD, take, drop}
+use lib.ListN.{length, getD, set, take, drop}
 use Rattle.std.specs.Iters.{counting}
 use Rattle.std.specs.shelf.Lists.{kept-by, inserted, removed}
 
@@ -38,5 +40,16 @@ leaving v xs = removed xs (placeOf v xs)
 abbrev pub rowOf : ℕ → List ℕ → List ℕ → ℕ → List ℕ
 rowOf span counts cells u = take (getD counts u 0) (drop (u * span) cells)
 
+pub record Ready (span : ℕ) (counts cells : List ℕ) (u : ℕ) : Type 0 where
+  pub known : u < length counts
+  pub small : u * span < 2 ^ 32
+  pub within : getD counts u 0 ≤ span
+  pub roomy : u * span + span ≤ length cells
+  pub rising : Rising (rowOf span counts cells u)
+
 abbrev pub writtenAt : ℕ → List ℕ → List ℕ → List ℕ
 writtenAt i xs cells = take i cells ++ (xs ++ drop (i + length xs) cells)
+
+pub record Rewritten (edit : List ℕ → List ℕ) (span u : ℕ) (counts cells counts′ cells′ : List ℕ) : Type 0 where
+  pub counted : counts′ ≡ set counts u (length (edit (rowOf span counts cells u)))
+  pub written : cells′ ≡ writtenAt (u * span) (edit (rowOf span counts cells u)) cells

@@ -3,18 +3,15 @@ ghost use mathlib.Core.Path.{_≡_};
 ghost use mathlib.Core.Bool.{true};
 ghost use mathlib.Core.List.{_++_};
 ghost use Prim.Native.Nat.{ℕ, _+_, _-_, _*_, _^_, _<_, _≤_};
-ghost use lib.ListN.{length, getD, set, take, drop};
+ghost use lib.ListN.{length, getD, take, drop};
 ghost use Rattle.grades.specs.Places.{onto};
-ghost use Rattle.rows.specs.Row.{has, Rising, placeOf, entered, leaving, rowOf, writtenAt};
+ghost use Rattle.rows.specs.Row.{has, Rising, placeOf, entered, leaving, rowOf, Ready, Rewritten};
 ghost use Rattle.std.specs.Finite.{nth};
 ghost use Rattle.std.specs.shelf.Lists.{inserted, removed};
 
 // The row of u.
 pub(crate) fn row_of<'a>(counts: &[u16], cells: &'a [u16], span: usize, u: usize) -> &'a [u16]
-    requires known { ⌜ u < length (now counts) ⌝ }
-    requires small { ⌜ u * span < 2 ^ 32 ⌝ }
-    requires within { ⌜ getD (now counts) u 0 ≤ span ⌝ }
-    requires roomy { ⌜ u * span + span ≤ length (now cells) ⌝ }
+    requires { ⌜ Ready span (now counts) (now cells) u ⌝ }
     ensures { λ r. ⌜ now r ≡ rowOf span (now (counts .entry)) (now (cells .entry)) u ⌝ }
 {
     let first = u * span;
@@ -97,13 +94,11 @@ fn remove(row: &mut [u16], at: usize)
 
 // v put into the row of u.
 pub(crate) fn put_in(counts: &mut [u16], cells: &mut [u16], span: usize, u: usize, v: usize)
-    requires known { ⌜ u < length (now counts) ⌝ }
-    requires small { ⌜ u * span < 2 ^ 32 ⌝ ∗ ⌜ span ≤ 4095 ⌝ ∗ ⌜ v < 2 ^ 16 ⌝ }
+    requires ready { ⌜ Ready span (now counts) (now cells) u ⌝ }
+    requires narrow { ⌜ span ≤ 4095 ⌝ }
     requires room { ⌜ getD (now counts) u 0 < span ⌝ }
-    requires roomy { ⌜ u * span + span ≤ length (now cells) ⌝ }
-    requires rising { ⌜ Rising (rowOf span (now counts) (now cells) u) ⌝ }
-    ensures counts { λ _. ⌜ now (counts .exit) ≡ set (now (counts .entry)) u (length (entered v (rowOf span (now (counts .entry)) (now (cells .entry)) u))) ⌝ }
-    ensures cells { λ _. ⌜ now (cells .exit) ≡ writtenAt (u * span) (entered v (rowOf span (now (counts .entry)) (now (cells .entry)) u)) (now (cells .entry)) ⌝ }
+    requires short { ⌜ v < 2 ^ 16 ⌝ }
+    ensures { λ _. ⌜ Rewritten (entered v) span u (now (counts .entry)) (now (cells .entry)) (now (counts .exit)) (now (cells .exit)) ⌝ }
 {
     let first = u * span;
     let count = counts[u] as usize;
@@ -114,14 +109,9 @@ pub(crate) fn put_in(counts: &mut [u16], cells: &mut [u16], span: usize, u: usiz
 
 // v taken out of the row of u.
 pub(crate) fn take_out(counts: &mut [u16], cells: &mut [u16], span: usize, u: usize, v: usize)
-    requires known { ⌜ u < length (now counts) ⌝ }
-    requires small { ⌜ u * span < 2 ^ 32 ⌝ }
-    requires within { ⌜ getD (now counts) u 0 ≤ span ⌝ }
-    requires roomy { ⌜ u * span + span ≤ length (now cells) ⌝ }
-    requires rising { ⌜ Rising (rowOf span (now counts) (now cells) u) ⌝ }
+    requires ready { ⌜ Ready span (now counts) (now cells) u ⌝ }
     requires stands { ⌜ has v (rowOf span (now counts) (now cells) u) ≡ true ⌝ }
-    ensures counts { λ _. ⌜ now (counts .exit) ≡ set (now (counts .entry)) u (length (leaving v (rowOf span (now (counts .entry)) (now (cells .entry)) u))) ⌝ }
-    ensures cells { λ _. ⌜ now (cells .exit) ≡ writtenAt (u * span) (leaving v (rowOf span (now (counts .entry)) (now (cells .entry)) u)) (now (cells .entry)) ⌝ }
+    ensures { λ _. ⌜ Rewritten (leaving v) span u (now (counts .entry)) (now (cells .entry)) (now (counts .exit)) (now (cells .exit)) ⌝ }
 {
     let first = u * span;
     let count = counts[u] as usize;

@@ -9,7 +9,7 @@ use Rattle.rows.proofs.Overwriting.{part-is, row-long, put-written}
 use Rattle.rows.proofs.cells.put_in.Needs as need
 
 pub place-at-requires : need.place-at-requires
-place-at-requires c κs = subst Rising (sym (part-is (c .args .cells .now) (c .args .u * c .args .span) (getD (c .args .counts .now) (c .args .u) 0))) (c .pre .rising)
+place-at-requires c κs = subst Rising (sym (part-is (c .args .cells .now) (c .args .u * c .args .span) (getD (c .args .counts .now) (c .args .u) 0))) (c .pre .ready .rising)
 
 pub returns : need.returns
 returns c =
@@ -31,6 +31,6 @@ returns c =
     let e : first + count + 1 - first ≡ count + 1 = omega arith in
     let written = put-written cells first count room at v (take (first + count + 1 - first) (drop first cells)) (c .insert .last .row) fits more (ap (λ k. take k (drop first cells)) e) (c .insert .ensures) in
     record {
-      counts = ap (set counts u) (omega arith);
-      cells = written ∙ ap (λ i. writtenAt first (inserted row i v) cells) is;
+      counted = ap (set counts u) (omega arith);
+      written = written ∙ ap (λ i. writtenAt first (inserted row i v) cells) is;
     }

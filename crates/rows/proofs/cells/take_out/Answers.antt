@@ -39,6 +39,6 @@ returns c =
     let size = length-removed row (placeOf v row) (omega arith) in
     let written = take-written cells first count room at part (c .remove .last .row) fits p (c .remove .ensures) in
     record {
-      counts = ap (set counts u) (omega arith);
-      cells = written ∙ ap (λ i. writtenAt first (removed row i) cells) is;
+      counted = ap (set counts u) (omega arith);
+      written = written ∙ ap (λ i. writtenAt first (removed row i) cells) is;
     }

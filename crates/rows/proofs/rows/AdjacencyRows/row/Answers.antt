@@ -1,10 +1,8 @@
 use native.Mathlib.Omega.{arith}
 use mathlib.Core.Path.{_≡_, sym, ap, ap₂, _∙_, subst}
-use Prim.Native.Nat.{_≤_}
-use lib.ListN.{length, getD}
 use Rattle.rows.specs.Row.{Rising, rowOf}
 use Rattle.rows.proofs.Neighbourhoods.{tidy-rising, nobody-near, row-near}
-use Rattle.rows.proofs.Stretches.{row-ends, first-small}
+use Rattle.rows.proofs.Keeping.{kept-in, ready-lent}
 use Rattle.rows.proofs.rows.AdjacencyRows.row.Needs as need
 
 pub returns-then-u-self : need.returns-then-u-self
@@ -15,14 +13,7 @@ returns-then-u-self g c =
 pub row-of-requires : need.row-of-requires
 row-of-requires g c κs =
     let s = c .args .self .now in
-    let u = c .args .u in
-    let h = c .if-u-self .left in
-    record {
-      known = omega (arith, ap length (c .deref .ensures .value), s .counted);
-      small = first-small u (s .n) (s .span) h (s .few) (s .narrow (omega arith));
-      within = subst (λ xs. getD xs u 0 ≤ s .span) (sym (c .deref .ensures .value)) (s .within u h);
-      roomy = omega (arith, ap length (c .deref-2 .ensures .value), s .roomy, row-ends u (s .n) (s .span) h);
-    }
+    ready-lent (kept-in s) (c .args .u) (c .if-u-self .left) (s .few) (s .narrow (omega arith)) (c .deref .ensures .value) (c .deref-2 .ensures .value)
 
 pub returns : need.returns
 returns g c =
