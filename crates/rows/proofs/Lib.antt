@@ -11,3 +11,5 @@ pub mod Rewriting
 pub mod Pairing
 pub mod Linking
 pub mod Grading
+pub mod Holding
+pub mod Sizes

@@ -67,20 +67,20 @@ module _ {n span : ℕ} {counts cells : List ℕ} (kept : Kept n span counts cel
       let out : has v row ≡ false = row-linked u v (eq-eqb u u refl) ∙ free in
       let tidy = kept .listed u a in
       row-rewritten (entered v row) (λ y. eqb y v || has y row) (λ x y. (eqb x u && eqb y v) || linked x y)
-          (omega (arith, entered-long v row, row-counts kept u a))
-          (tidy-entered n v b row tidy out)
-          (has-entered n v b row tidy out)
-          (λ x y. one-more (eqb x u) (eqb y v) (has y row) (linked x y) (row-linked x y))
+      (omega (arith, entered-long v row, row-counts kept u a))
+      (tidy-entered n v b row tidy out)
+      (has-entered n v b row tidy out)
+      (λ x y. one-more (eqb x u) (eqb y v) (has y row) (linked x y) (row-linked x y))
 
   pub take-once : linked u v ≡ true → Becomes n span counts cells (λ x y. not (eqb x u && eqb y v) && linked x y) (set counts u (length (leaving v row))) (writtenAt (u * span) (leaving v row) cells)
   take-once held =
       let stands : has v row ≡ true = row-linked u v (eq-eqb u u refl) ∙ held in
       let tidy = kept .listed u a in
       row-rewritten (leaving v row) (λ y. not (eqb y v) && has y row) (λ x y. not (eqb x u && eqb y v) && linked x y)
-          (omega (arith, leaving-long v row, row-counts kept u a, kept .within u a))
-          (tidy-leaving n v b row tidy stands)
-          (has-leaving n v b row tidy stands)
-          (λ x y. one-less (eqb x u) (eqb y v) (has y row) (linked x y) (row-linked x y))
+      (omega (arith, leaving-long v row, row-counts kept u a, kept .within u a))
+      (tidy-leaving n v b row tidy stands)
+      (has-leaving n v b row tidy stands)
+      (λ x y. one-less (eqb x u) (eqb y v) (has y row) (linked x y) (row-linked x y))
 
 -- one change after another
 then-becomes : (n span : ℕ) (counts cells ks xs ks′ xs′ : List ℕ) (f g h : ℕ → ℕ → Bool) → Becomes n span counts cells f ks xs → Becomes n span ks xs g ks′ xs′
@@ -127,10 +127,10 @@ module _ {n span : ℕ} {counts cells : List ℕ} (kept : Kept n span counts cel
         let one = put-first in
         let again = rewritten-lent (entered u) span v ks xs dk′ dx′ ks′ xs′ e′ d′ r′ in
         let still : linkedIn n span ks xs v u ≡ false =
-            one .linked v u ∙ or-from (eqb v u && eqb u v) (before v u) (and-left (eqb v u) (eqb u v) (ne-eqb v u (λ w. ne (sym w)))) (both v u ∙ free) in
+        one .linked v u ∙ or-from (eqb v u && eqb u v) (before v u) (and-left (eqb v u) (eqb u v) (ne-eqb v u (λ w. ne (sym w)))) (both v u ∙ free) in
         let two = becomes-at n span ks xs _ _ ks″ _ xs″ (e″ ∙ again .counted) (d″ ∙ again .written) (put-once (one .kept) v u b a still (room-left room′)) in
         then-becomes n span counts cells ks xs ks″ xs″ _ _ (λ x y. isPair u v x y || before x y) one two
-            (λ x y. ap (λ t. (eqb x v && eqb y u) || t) (one .linked x y) ∙ both-more (eqb x u && eqb y v) (eqb x v && eqb y u) (before x y))
+        (λ x y. ap (λ t. (eqb x v && eqb y u) || t) (one .linked x y) ∙ both-more (eqb x u && eqb y v) (eqb x v && eqb y u) (before x y))
 
   module _ (held : before u v ≡ true)
       {dk dx ks xs : List ℕ} (e : dk ≡ counts) (d : dx ≡ cells) (r : Rewritten (leaving v) span u dk dx ks xs) where
@@ -154,7 +154,7 @@ module _ {n span : ℕ} {counts cells : List ℕ} (kept : Kept n span counts cel
         let again = rewritten-lent (leaving u) span v ks xs dk′ dx′ ks′ xs′ e′ d′ r′ in
         let two = becomes-at n span ks xs _ _ ks″ _ xs″ (e″ ∙ again .counted) (d″ ∙ again .written) (take-once (one .kept) v u b a still-held) in
         then-becomes n span counts cells ks xs ks″ xs″ _ _ (λ x y. not (isPair u v x y) && before x y) one two
-            (λ x y. ap (λ t. not (eqb x v && eqb y u) && t) (one .linked x y) ∙ both-less (eqb x u && eqb y v) (eqb x v && eqb y u) (before x y))
+        (λ x y. ap (λ t. not (eqb x v && eqb y u) && t) (one .linked x y) ∙ both-less (eqb x u && eqb y v) (eqb x v && eqb y u) (before x y))
 
 -- the network and what is fixed, after a change
 module _ {G : Type 0} {n span : ℕ} {counts cells : List ℕ} (grades : List G) {f : ℕ → ℕ → Bool} {ks xs : List ℕ} (to : Becomes n span counts cells f ks xs) where

@@ -54,7 +54,7 @@ module _ (cells : List ℕ) (first count : ℕ) (room : first + count ≤ length
       let k : first + count - first ≡ count = omega arith in
       let fits : count - 1 ≤ length row = omega (arith, row-long) in
       let rest : drop (count - 1) row ++ drop count D ≡ drop (count - 1) D =
-          sym (drop-append-le (count - 1) row (drop count D) fits) ∙ ap (drop (count - 1)) (take-append-drop count D) in
+      sym (drop-append-le (count - 1) row (drop count D) fits) ∙ ap (drop (count - 1)) (take-append-drop count D) in
       let m : count - 1 ≡ length (removed row at) = omega (arith, row-long, length-removed row at (omega (arith, row-long))) in
       ap₂ (λ xs j. take first cells ++ (xs ++ drop j D)) is k
       ∙ ap (λ t. take first cells ++ t) (append-assoc (removed row at) (drop (count - 1) row) (drop count D) ∙ ap (λ t. removed row at ++ t) rest)

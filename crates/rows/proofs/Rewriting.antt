@@ -46,7 +46,7 @@ module _ (cells xs : List ℕ) (first : ℕ) (room : first + length xs ≤ lengt
       let l : length (take first cells ++ xs) ≡ first + length xs = omega (arith, front-long, length-append (take first cells) xs) in
       let rest = drop (first + length xs) cells in
       let cut : drop (first + length xs) written ≡ rest =
-          ap (drop (first + length xs)) (sym (append-assoc (take first cells) xs rest)) ∙ drop-at (take first cells ++ xs) rest (first + length xs) l in
+      ap (drop (first + length xs)) (sym (append-assoc (take first cells) xs rest)) ∙ drop-at (take first cells ++ xs) rest (first + length xs) l in
       ap (λ i. drop i written) e
       ∙ sym (drop-drop (a - (first + length xs)) (first + length xs) written)
       ∙ ap (drop (a - (first + length xs))) cut
@@ -73,9 +73,9 @@ module _ (n span : ℕ) (counts cells : List ℕ) (kept : Kept n span counts cel
   row-there w h ne =
       let fit = kept .within w h in
       ap (λ k. take k (drop (w * span) cells′)) (getD-set-other counts u w (length xs) 0 ne) ∙ elim (cases-lt w u) [
-      | inl less ↦ before-written cells xs (u * span) room (w * span) (getD counts w 0) (omega (arith, row-ends w u span less))
-      | inr more ↦ (let l : u < w = omega arith in
-          ap (take (getD counts w 0)) (behind-written cells xs (u * span) room (w * span) (omega (arith, row-ends u w span l))))
+        | inl less ↦ before-written cells xs (u * span) room (w * span) (getD counts w 0) (omega (arith, row-ends w u span less))
+        | inr more ↦ (let l : u < w = omega arith in
+            ap (take (getD counts w 0)) (behind-written cells xs (u * span) room (w * span) (omega (arith, row-ends u w span l))))
       ]
 
   pub still-kept : Tidy n xs → Kept n span counts′ cells′
@@ -110,7 +110,7 @@ module _ (n span : ℕ) (counts cells : List ℕ) (kept : Kept n span counts cel
     | inl e ↦ ap (λ t. linkedIn n span counts′ cells′ t y) e ∙ ap₂ (λ b row. b && has y row) (lt-ltb u n inside) row-here ∙ is y
         ∙ sym (ap (λ b. cond b (q y) (linkedIn n span counts cells x y)) (eq-eqb x u e))
     | inr ne ↦ elim (cases-lt x n) [
-        | inl h ↦ ap (λ row. ltb x n && has y row) (row-there x h ne)
-        | inr h ↦ nobody-linked n span counts′ cells′ x y h ∙ sym (nobody-linked n span counts cells x y h)
-      ] ∙ sym (ap (λ b. cond b (q y) (linkedIn n span counts cells x y)) (ne-eqb x u ne))
+      | inl h ↦ ap (λ row. ltb x n && has y row) (row-there x h ne)
+      | inr h ↦ nobody-linked n span counts′ cells′ x y h ∙ sym (nobody-linked n span counts cells x y h)
+    ] ∙ sym (ap (λ b. cond b (q y) (linkedIn n span counts cells x y)) (ne-eqb x u ne))
   ]

@@ -33,15 +33,15 @@ module _ (old new : List ℕ) (at : ℕ) (inside : at < length old) (long : leng
       let m : length front ≡ length old - 1 = length-take-le (length old - 1) old (omega arith) in
       let fits : at ≤ length front = omega arith in
       ext-getD 0 (set new at v) (inserted front at v) (omega (arith, length-set new at v, length-inserted front at v fits)) (λ k h.
-        let l : k < length new = omega (arith, length-set new at v) in
-        elim (cases-order k at) [
+      let l : k < length new = omega (arith, length-set new at v) in
+      elim (cases-order k at) [
         | inl e ↦ ap (λ i. getD (set new at v) i 0) e ∙ getD-set-same new at v 0 (omega arith) ∙ sym (ap (λ i. getD (inserted front at v) i 0) e ∙ getD-inserted-at front at v 0 fits)
         | inr (inl less) ↦ getD-set-other new at k v 0 (omega arith) ∙ low k (omega arith)
             ∙ sym (getD-inserted-below front at v 0 k less fits ∙ getD-take (length old - 1) old k 0 (omega arith))
         | inr (inr more) ↦ (let e : k ≡ k - 1 + 1 = omega arith in
             getD-set-other new at k v 0 (omega arith) ∙ high k more l
             ∙ sym (ap (λ i. getD (inserted front at v) i 0) e ∙ getD-inserted-above front at v 0 (k - 1) (omega arith) fits ∙ getD-take (length old - 1) old (k - 1) 0 (omega arith)))
-        ])
+      ])
 
   -- those behind `at` have moved down
   pub moved-down : ((k : ℕ) → k < at → getD new k 0 ≡ getD old k 0) → ((k : ℕ) → at ≤ k → k < length old - 1 → getD new k 0 ≡ getD old (k + 1) 0)
@@ -51,15 +51,15 @@ module _ (old new : List ℕ) (at : ℕ) (inside : at < length old) (long : leng
       let d = drop (length old - 1) old in
       let m : length r ≡ length old - 1 = omega (arith, length-removed old at inside) in
       ext-getD 0 new (r ++ d) (omega (arith, length-append r d, length-drop (length old - 1) old)) (λ k h.
-        elim (cases-lt k (length old - 1)) [
+      elim (cases-lt k (length old - 1)) [
         | inl l ↦ (let left : getD (r ++ d) k 0 ≡ getD r k 0 = getD-append-left r d 0 k (omega arith) in
             elim (cases-lt k at) [
-            | inl less ↦ low k less ∙ sym (left ∙ getD-removed-below old at 0 k less inside)
-            | inr more ↦ mid k more l ∙ sym (left ∙ getD-removed-above old at 0 k more inside)
+              | inl less ↦ low k less ∙ sym (left ∙ getD-removed-below old at 0 k less inside)
+              | inr more ↦ mid k more l ∙ sym (left ∙ getD-removed-above old at 0 k more inside)
             ])
         | inr l ↦ (let e : length old - 1 + (k - (length old - 1)) ≡ k = omega arith in
             high k l ∙ sym (getD-append-right r d (length old - 1) k 0 m l ∙ getD-drop (length old - 1) old (k - (length old - 1)) 0 ∙ ap (λ i. getD old i 0) e))
-        ])
+      ])
 
 -- one more element moved down, with i moved so far
 module _ (old new : List ℕ) (at i : ℕ) (start : at ≤ i) (inside : i + 1 < length new)

@@ -19,9 +19,10 @@ use Rattle.rows.proofs.Standing.{has-at, has-none}
 -- the numbers from a on
 pub all-between : (a m : ℕ) → All (λ x. (a ≤ x) × (x < a + m)) (counting a m)
 all-between a zero = tt
-all-between a (suc m) =
-    ((omega arith, omega arith),
-     all-weaker (λ x. (a + 1 ≤ x) × (x < a + 1 + m)) (λ x. (a ≤ x) × (x < a + suc m)) (λ x h. (omega (arith, h .0), omega (arith, h .1))) (counting (a + 1) m) (all-between (a + 1) m))
+all-between a (suc m) = (
+  (omega arith, omega arith),
+  all-weaker (λ x. (a + 1 ≤ x) × (x < a + 1 + m)) (λ x. (a ≤ x) × (x < a + suc m)) (λ x h. (omega (arith, h .0), omega (arith, h .1))) (counting (a + 1) m) (all-between (a + 1) m),
+)
 
 counting-append : (a k m : ℕ) → counting a (k + m) ≡ counting a k ++ counting (a + k) m
 counting-append a zero m = ap₂ counting (sym (add-zero a)) (zero-add m)
@@ -83,5 +84,5 @@ pub kept-rising : (p : ℕ → Bool) (a m : ℕ) → Rising (kept-by p (counting
 kept-rising p a zero = λ i j h l. absurd (omega arith)
 kept-rising p a (suc m) = rising-step (p a) a (kept-by p (counting (a + 1) m))
     (all-kept-by p (λ x. a < x) (counting (a + 1) m)
-        (all-weaker (λ x. (a + 1 ≤ x) × (x < a + 1 + m)) (λ x. a < x) (λ x h. omega (arith, h .0)) (counting (a + 1) m) (all-between (a + 1) m)))
+    (all-weaker (λ x. (a + 1 ≤ x) × (x < a + 1 + m)) (λ x. a < x) (λ x h. omega (arith, h .0)) (counting (a + 1) m) (all-between (a + 1) m)))
     (kept-rising p (a + 1) m)

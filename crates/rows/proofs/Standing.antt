@@ -27,10 +27,10 @@ module _ (xs : List ℕ) (v r : ℕ) (below : (k : ℕ) → k < r → getD xs k 
   has-here rising h = elim (cases-eq (getD xs r 0) v) [
     | inl e ↦ eq-eqb (getD xs r 0) v e ∙ sym (has-at xs v r h e)
     | inr ne ↦ ne-eqb (getD xs r 0) v ne ∙ sym (has-none xs v (λ k l e. elim (cases-order k r) [
-        | inl same ↦ ne (ap (λ i. getD xs i 0) (sym same) ∙ e)
-        | inr (inl less) ↦ omega (arith, below k less)
-        | inr (inr more) ↦ omega (arith, rising r k more l, above r (omega arith) h)
-      ]))
+      | inl same ↦ ne (ap (λ i. getD xs i 0) (sym same) ∙ e)
+      | inr (inl less) ↦ omega (arith, below k less)
+      | inr (inr more) ↦ omega (arith, rising r k more l, above r (omega arith) h)
+    ]))
   ]
 
   pub has-past : length xs ≤ r → ltb r (length xs) ≡ has v xs

@@ -22,8 +22,8 @@ has-outside n xs t w h = ap (has w) t ∙ has-kept (λ v. has v xs) n w ∙ and-
 pub tidy-kept : (n : ℕ) (q : ℕ → Bool) (ys : List ℕ) → ys ≡ kept-by q (counting 0 n) → Tidy n ys
 tidy-kept n q ys e = e ∙ kept-agree q (λ w. has w ys) (counting 0 n)
     (all-weaker (λ x. (0 ≤ x) × (x < 0 + n)) (λ x. q x ≡ has x ys)
-        (λ w h. let l : w < n = omega (arith, h .1) in sym (ap (has w) e ∙ has-kept q n w ∙ ap (λ b. b && q w) (lt-ltb w n l)))
-        (counting 0 n) (all-between 0 n))
+    (λ w h. let l : w < n = omega (arith, h .1) in sym (ap (has w) e ∙ has-kept q n w ∙ ap (λ b. b && q w) (lt-ltb w n l)))
+    (counting 0 n) (all-between 0 n))
 
 pub passes : (n : ℕ) (q : ℕ → Bool) (ys : List ℕ) → ys ≡ kept-by q (counting 0 n) → ((w : ℕ) → n ≤ w → q w ≡ false) → (w : ℕ) → has w ys ≡ q w
 passes n q ys e none w = ap (has w) e ∙ has-kept q n w ∙ elim (cases-lt w n) [

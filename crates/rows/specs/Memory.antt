@@ -2,13 +2,15 @@
 --     sizesOf span counts cells grades      what the opening check goes by
 --     refusalBy n sizes           6 for too many persons or too long rows, else 7 for a memory that is short
 --     fixedIn n span counts cells grades    the sizes, the span as the ceiling, and what lies behind
---     HoldsNet net f span counts cells grades     the memory holds just this network; free behind each count
+--     cleared k xs                xs with its first k numbers 0
+--     Begins xs cells             cells begins with xs, and is free behind it
+--     HoldsNet net f span counts cells grades     the memory holds just this network
 use mathlib.Core.Path.{_≡_}
 use mathlib.Core.Bool.{cond, _||_}
 use mathlib.Core.List.{List, [], _∷_, _++_, map}
 use Prim.Native.Nat.{ℕ, _*_, _<_}
 use lib.Dec.{ltb}
-use lib.ListN.{length, getD, take, drop}
+use lib.ListN.{length, getD, take, drop, replicate}
 use Rattle.std.specs.Iters.{counting}
 use Rattle.std.specs.declared.option.Option.{Option}
 use Rattle.std.specs.declared.option.Option.the-variants.{Some, None}
@@ -36,11 +38,16 @@ fixedIn n span counts cells grades = record {
   cellsBehind = drop n counts ∷ drop (n * span) cells ∷ [];
 }
 
+abbrev pub cleared : ℕ → List ℕ → List ℕ
+cleared k xs = replicate k 0 ++ drop k xs
+
+abbrev pub Begins : List ℕ → List ℕ → Type 0
+Begins xs cells = take (length xs) cells ≡ xs
+
 pub record HoldsNet {G : Type 0} (net : Net G) (f : Fixed G) (span : ℕ) (counts cells : List ℕ) (grades : List G) : Type 0 where
   pub sizes : sizesOf span counts cells grades ≡ f .sizes
   pub ceiling : span ≡ f .ceiling
-  pub counted : take (net .persons) counts ≡ map (degreeOf net) (counting 0 (net .persons))
-  -- each row begins with the neighbours
-  pub rows : (u : ℕ) → u < net .persons → take (degreeOf net u) (drop (u * span) cells) ≡ neighbours net u
+  pub degrees : take (net .persons) counts ≡ map (degreeOf net) (counting 0 (net .persons))
+  pub rows : (u : ℕ) → u < net .persons → Begins (neighbours net u) (drop (u * span) cells)
   pub graded : grades ≡ net .grades ++ f .gradesBehind
   pub behind : drop (net .persons) counts ∷ drop (net .persons * span) cells ∷ [] ≡ f .cellsBehind

@@ -5,6 +5,7 @@ ghost use mathlib.Core.List.{_++_};
 ghost use Prim.Native.Nat.{ℕ, _+_, _-_, _*_, _^_, _<_, _≤_};
 ghost use lib.ListN.{length, getD, take, drop};
 ghost use Rattle.grades.specs.Places.{onto};
+ghost use Rattle.rows.specs.Memory.{cleared};
 ghost use Rattle.rows.specs.Row.{has, Rising, placeOf, entered, leaving, rowOf, Ready, Rewritten};
 ghost use Rattle.std.specs.Finite.{nth};
 ghost use Rattle.std.specs.shelf.Lists.{inserted, removed};
@@ -50,7 +51,11 @@ pub(crate) fn stands(row: &[u16], v: usize) -> bool
 pub(crate) fn number(row: &[u16], i: usize) -> Option<usize>
     ensures { λ r. ⌜ r ≡ nth (now (row .entry)) i ⌝ }
 {
-    if i < row.len() { Some(row[i] as usize) } else { None }
+    if i < row.len() {
+        Some(row[i] as usize)
+    } else {
+        None
+    }
 }
 
 pub(crate) fn copy(row: &[u16], places: &mut [u32])
@@ -118,4 +123,14 @@ pub(crate) fn take_out(counts: &mut [u16], cells: &mut [u16], span: usize, u: us
     let at = place(&cells[first..first + count], v);
     remove(&mut cells[first..first + count], at);
     counts[u] = count as u16 - 1;
+}
+
+// The first k numbers made 0.
+pub(crate) fn clear(numbers: &mut [u16], k: usize)
+    requires { ⌜ k ≤ length (now numbers) ⌝ }
+    ensures { λ _. ⌜ now (numbers .exit) ≡ cleared k (now (numbers .entry)) ⌝ }
+{
+    for i in 0..k {
+        numbers[i] = 0;
+    }
 }

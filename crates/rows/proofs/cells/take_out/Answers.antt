@@ -16,7 +16,7 @@ remove-requires c κs =
     let part = take (first + count - first) (drop first (c .args .cells .now)) in
     let p = c .place-at .ensures in
     placed part (c .args .v) (c .place-at .result) (p .below) (p .above)
-        (ap (has (c .args .v)) (part-is (c .args .cells .now) first count) ∙ c .pre .stands)
+    (ap (has (c .args .v)) (part-is (c .args .cells .now) first count) ∙ c .pre .stands)
 
 pub returns : need.returns
 returns c =

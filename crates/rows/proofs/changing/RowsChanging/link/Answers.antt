@@ -33,9 +33,9 @@ put-in-requires-2 g c κs =
     let narrow = s .narrow (omega arith) in
     let free = sym (c .linked .ensures) ∙ c .if-linked .left in
     let first = put-first (kept-in s) (c .args .u) v (c .if-u-n .left) (c .if-v-n .left) (c .if-u-v .left) (s .bothways) free (omega (arith, c .degree .ensures))
-        (c .deref-mut .ensures .value) (c .deref-mut-2 .ensures .value) (c .put-in .ensures) in
+    (c .deref-mut .ensures .value) (c .deref-mut-2 .ensures .value) (c .put-in .ensures) in
     let left = room-left (kept-in s) (c .args .u) v (c .if-u-n .left) (c .if-v-n .left) (c .if-u-v .left) (s .bothways) free (omega (arith, c .degree .ensures))
-        (c .deref-mut .ensures .value) (c .deref-mut-2 .ensures .value) (c .put-in .ensures) (omega (arith, c .degree-else-degree-span .ensures)) in
+    (c .deref-mut .ensures .value) (c .deref-mut-2 .ensures .value) (c .put-in .ensures) (omega (arith, c .degree-else-degree-span .ensures)) in
     let e = c .deref-mut-3 .ensures .value ∙ refilled-is (s .counts) (c .put-in .last .counts) (omega arith) in
     let d = c .deref-mut-4 .ensures .value ∙ refilled-is (s .cells) (c .put-in .last .cells) (omega arith) in
     record {
@@ -52,14 +52,35 @@ ghost-self g c =
     let v = c .args .v in
     let old = linkedIn (s .n) (s .span) (s .counts .items) (s .cells .items) in
     let to = put-both (kept-in s) u v (c .if-u-n .left) (c .if-v-n .left) (c .if-u-v .left) (s .bothways) (sym (c .linked .ensures) ∙ c .if-linked .left) (omega (arith, c .degree .ensures))
-        (c .deref-mut .ensures .value) (c .deref-mut-2 .ensures .value) (c .put-in .ensures) (omega (arith, c .degree-else-degree-span .ensures))
-        (c .deref-mut-3 .ensures .value ∙ refilled-is (s .counts) (c .put-in .last .counts) (omega arith))
-        (c .deref-mut-4 .ensures .value ∙ refilled-is (s .cells) (c .put-in .last .cells) (omega arith)) (c .put-in-2 .ensures)
-        (refilled-is (refilled (s .counts) (c .put-in .last .counts)) (c .put-in-2 .last .counts) (omega arith))
-        (refilled-is (refilled (s .cells) (c .put-in .last .cells)) (c .put-in-2 .last .cells) (omega arith)) in
-    (s .few, (s .narrow, (to .kept .counted, (to .kept .roomy, (s .graded, (to .kept .within, (to .kept .listed,
-      ((λ x. to .linked x x ∙ apart-more old u v (c .if-u-v .left) (s .apart) x),
-       ((λ x y. to .linked x y ∙ bothways-more old u v (s .bothways) x y ∙ sym (to .linked y x)), tt)))))))))
+    (c .deref-mut .ensures .value) (c .deref-mut-2 .ensures .value) (c .put-in .ensures) (omega (arith, c .degree-else-degree-span .ensures))
+    (c .deref-mut-3 .ensures .value ∙ refilled-is (s .counts) (c .put-in .last .counts) (omega arith))
+    (c .deref-mut-4 .ensures .value ∙ refilled-is (s .cells) (c .put-in .last .cells) (omega arith)) (c .put-in-2 .ensures)
+    (refilled-is (refilled (s .counts) (c .put-in .last .counts)) (c .put-in-2 .last .counts) (omega arith))
+    (refilled-is (refilled (s .cells) (c .put-in .last .cells)) (c .put-in-2 .last .cells) (omega arith)) in (
+      s .few,
+      (
+        s .narrow,
+        (
+          to .kept .counted,
+          (
+            to .kept .roomy,
+            (
+              s .graded,
+              (
+                to .kept .within,
+                (
+                  to .kept .listed,
+                  (
+                    (λ x. to .linked x x ∙ apart-more old u v (c .if-u-v .left) (s .apart) x),
+                    ((λ x y. to .linked x y ∙ bothways-more old u v (s .bothways) x y ∙ sym (to .linked y x)), tt),
+                  ),
+                ),
+              ),
+            ),
+          ),
+        ),
+      ),
+    )
 
 pub returns : need.returns
 returns g c =
@@ -70,11 +91,11 @@ returns g c =
     let free = sym (c .linked .ensures) ∙ c .if-linked .left in
     let granted = link-granted net u v (c .if-u-n .left) (c .if-v-n .left) (c .if-u-v .left) (s .span) free (omega (arith, c .degree .ensures)) (omega (arith, c .degree-else-degree-span .ensures)) in
     let to = put-both (kept-in s) u v (c .if-u-n .left) (c .if-v-n .left) (c .if-u-v .left) (s .bothways) free (omega (arith, c .degree .ensures))
-        (c .deref-mut .ensures .value) (c .deref-mut-2 .ensures .value) (c .put-in .ensures) (omega (arith, c .degree-else-degree-span .ensures))
-        (c .deref-mut-3 .ensures .value ∙ refilled-is (s .counts) (c .put-in .last .counts) (omega arith))
-        (c .deref-mut-4 .ensures .value ∙ refilled-is (s .cells) (c .put-in .last .cells) (omega arith)) (c .put-in-2 .ensures)
-        (refilled-is (refilled (s .counts) (c .put-in .last .counts)) (c .put-in-2 .last .counts) (omega arith))
-        (refilled-is (refilled (s .cells) (c .put-in .last .cells)) (c .put-in-2 .last .cells) (omega arith)) in
+    (c .deref-mut .ensures .value) (c .deref-mut-2 .ensures .value) (c .put-in .ensures) (omega (arith, c .degree-else-degree-span .ensures))
+    (c .deref-mut-3 .ensures .value ∙ refilled-is (s .counts) (c .put-in .last .counts) (omega arith))
+    (c .deref-mut-4 .ensures .value ∙ refilled-is (s .cells) (c .put-in .last .cells) (omega arith)) (c .put-in-2 .ensures)
+    (refilled-is (refilled (s .counts) (c .put-in .last .counts)) (c .put-in-2 .last .counts) (omega arith))
+    (refilled-is (refilled (s .cells) (c .put-in .last .cells)) (c .put-in-2 .last .cells) (omega arith)) in
     record {
       cases = sym (ap (λ f. answered f tt) granted);
       network = net-becomes (s .grades .items) to ∙ sym (ap (λ f. unless f (withLink net u v) net) granted);

@@ -33,7 +33,7 @@ take-out-requires-2 g c κs =
     let v = c .args .v in
     let held = sym (c .linked .ensures) ∙ c .if-not-linked .left in
     let first = take-first (kept-in s) u v (c .if-u-n .left) (c .if-v-n .left) (c .if-u-v .left) (s .bothways) held
-        (c .deref-mut .ensures .value) (c .deref-mut-2 .ensures .value) (c .take-out .ensures) in
+    (c .deref-mut .ensures .value) (c .deref-mut-2 .ensures .value) (c .take-out .ensures) in
     let e = c .deref-mut-3 .ensures .value ∙ refilled-is (s .counts) (c .take-out .last .counts) (omega arith) in
     let d = c .deref-mut-4 .ensures .value ∙ refilled-is (s .cells) (c .take-out .last .cells) (omega arith) in
     record {
@@ -49,14 +49,35 @@ ghost-self g c =
     let v = c .args .v in
     let old = linkedIn (s .n) (s .span) (s .counts .items) (s .cells .items) in
     let to = take-both (kept-in s) u v (c .if-u-n .left) (c .if-v-n .left) (c .if-u-v .left) (s .bothways) (sym (c .linked .ensures) ∙ c .if-not-linked .left)
-        (c .deref-mut .ensures .value) (c .deref-mut-2 .ensures .value) (c .take-out .ensures)
-        (c .deref-mut-3 .ensures .value ∙ refilled-is (s .counts) (c .take-out .last .counts) (omega arith))
-        (c .deref-mut-4 .ensures .value ∙ refilled-is (s .cells) (c .take-out .last .cells) (omega arith)) (c .take-out-2 .ensures)
-        (refilled-is (refilled (s .counts) (c .take-out .last .counts)) (c .take-out-2 .last .counts) (omega arith))
-        (refilled-is (refilled (s .cells) (c .take-out .last .cells)) (c .take-out-2 .last .cells) (omega arith)) in
-    (s .few, (s .narrow, (to .kept .counted, (to .kept .roomy, (s .graded, (to .kept .within, (to .kept .listed,
-      ((λ x. to .linked x x ∙ apart-less old u v (s .apart) x),
-       ((λ x y. to .linked x y ∙ bothways-less old u v (s .bothways) x y ∙ sym (to .linked y x)), tt)))))))))
+    (c .deref-mut .ensures .value) (c .deref-mut-2 .ensures .value) (c .take-out .ensures)
+    (c .deref-mut-3 .ensures .value ∙ refilled-is (s .counts) (c .take-out .last .counts) (omega arith))
+    (c .deref-mut-4 .ensures .value ∙ refilled-is (s .cells) (c .take-out .last .cells) (omega arith)) (c .take-out-2 .ensures)
+    (refilled-is (refilled (s .counts) (c .take-out .last .counts)) (c .take-out-2 .last .counts) (omega arith))
+    (refilled-is (refilled (s .cells) (c .take-out .last .cells)) (c .take-out-2 .last .cells) (omega arith)) in (
+      s .few,
+      (
+        s .narrow,
+        (
+          to .kept .counted,
+          (
+            to .kept .roomy,
+            (
+              s .graded,
+              (
+                to .kept .within,
+                (
+                  to .kept .listed,
+                  (
+                    (λ x. to .linked x x ∙ apart-less old u v (s .apart) x),
+                    ((λ x y. to .linked x y ∙ bothways-less old u v (s .bothways) x y ∙ sym (to .linked y x)), tt),
+                  ),
+                ),
+              ),
+            ),
+          ),
+        ),
+      ),
+    )
 
 pub returns : need.returns
 returns g c =
@@ -67,11 +88,11 @@ returns g c =
     let held = sym (c .linked .ensures) ∙ c .if-not-linked .left in
     let granted = unlink-granted net u v (c .if-u-n .left) (c .if-v-n .left) (c .if-u-v .left) held in
     let to = take-both (kept-in s) u v (c .if-u-n .left) (c .if-v-n .left) (c .if-u-v .left) (s .bothways) held
-        (c .deref-mut .ensures .value) (c .deref-mut-2 .ensures .value) (c .take-out .ensures)
-        (c .deref-mut-3 .ensures .value ∙ refilled-is (s .counts) (c .take-out .last .counts) (omega arith))
-        (c .deref-mut-4 .ensures .value ∙ refilled-is (s .cells) (c .take-out .last .cells) (omega arith)) (c .take-out-2 .ensures)
-        (refilled-is (refilled (s .counts) (c .take-out .last .counts)) (c .take-out-2 .last .counts) (omega arith))
-        (refilled-is (refilled (s .cells) (c .take-out .last .cells)) (c .take-out-2 .last .cells) (omega arith)) in
+    (c .deref-mut .ensures .value) (c .deref-mut-2 .ensures .value) (c .take-out .ensures)
+    (c .deref-mut-3 .ensures .value ∙ refilled-is (s .counts) (c .take-out .last .counts) (omega arith))
+    (c .deref-mut-4 .ensures .value ∙ refilled-is (s .cells) (c .take-out .last .cells) (omega arith)) (c .take-out-2 .ensures)
+    (refilled-is (refilled (s .counts) (c .take-out .last .counts)) (c .take-out-2 .last .counts) (omega arith))
+    (refilled-is (refilled (s .cells) (c .take-out .last .cells)) (c .take-out-2 .last .cells) (omega arith)) in
     record {
       cases = sym (ap (λ f. answered f tt) granted);
       network = net-becomes (s .grades .items) to ∙ sym (ap (λ f. unless f (withoutLink net u v) net) granted);
