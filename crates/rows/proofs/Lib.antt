@@ -1,0 +1,15 @@
+pub mod Standing
+pub mod Fronts
+pub mod Sieve
+pub mod Stretches
+pub mod Neighbourhoods
+pub mod Shifts
+pub mod Overwriting
+pub mod Keeping
+pub mod Tidying
+pub mod Rewriting
+pub mod Pairing
+pub mod Linking
+pub mod Grading
+pub mod Holding
+pub mod Sizes

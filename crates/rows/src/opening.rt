@@ -1,0 +1,101 @@
+// Adjacency rows opened from memory, and the memory handed back.
+ghost use mathlib.Core.Path.{_≡_};
+ghost use Rattle.rows.specs.Memory.{sizesOf, refusalFor, refusalBy, fixedIn, HoldsNet};
+ghost use Rattle.std.specs.Of.Vec.{vec-items};
+use crate::cells::clear;
+use crate::reading::RowsNetwork;
+use crate::rows::AdjacencyRows;
+use crate::rows::RowsMemory;
+use faults::CallFault;
+use grades::Grade;
+use networks::Network;
+use networks::Opening;
+
+// Rows of more than 4,095 numbers, or more than 4,096 of them, are too large; then each memory has to suffice.
+fn refused(n: usize, span: usize, counts: usize, cells: usize, grades: usize) -> Option<CallFault>
+    ensures { λ r. ⌜ r ≡ refusalFor n span counts cells grades ⌝ }
+{
+    if n > 4096 || span > 4095 {
+        return Some(CallFault::TooLarge);
+    }
+    if counts < n || cells < n * span || grades < n {
+        return Some(CallFault::ShortMemory);
+    }
+    None
+}
+
+pub impl<G: Grade + Drop> Opening for AdjacencyRows<G> as RowsOpening {
+    type Memory = RowsMemory<G>;
+
+    ghost sizes = { λ m. sizesOf (m .span) (vec-items (m .counts)) (vec-items (m .cells)) (vec-items (m .grades)) };
+
+    ghost refusal = { refusalBy };
+
+    ghost found = { λ m. vec-items (m .grades) };
+
+    ghost fixedBy = { λ n m. fixedIn n (m .span) (vec-items (m .counts)) (vec-items (m .cells)) (vec-items (m .grades)) };
+
+    ghost Holds = { λ net f m. HoldsNet net f (m .span) (vec-items (m .counts)) (vec-items (m .cells)) (vec-items (m .grades)) };
+
+    fn check(n: usize, memory: &RowsMemory<G>) -> Result<(), CallFault> {
+        match refused(
+            n,
+            memory.span,
+            memory.counts.len(),
+            memory.cells.len(),
+            memory.grades.len(),
+        ) {
+            None => Ok(()),
+            Some(fault) => Err(fault),
+        }
+    }
+
+    fn open(n: usize, memory: RowsMemory<G>) -> AdjacencyRows<G> {
+        let unfit = refused(
+            n,
+            memory.span,
+            memory.counts.len(),
+            memory.cells.len(),
+            memory.grades.len(),
+        ).is_some();
+        let RowsMemory {
+            span,
+            mut counts,
+            cells,
+            grades,
+        } = memory;
+        if unfit {
+            return AdjacencyRows {
+                n: 0,
+                span,
+                counts,
+                cells,
+                grades,
+            };
+        }
+        clear(&mut counts, n);
+        AdjacencyRows {
+            n,
+            span,
+            counts,
+            cells,
+            grades,
+        }
+    }
+
+    fn close(self) -> RowsMemory<G> {
+        let AdjacencyRows {
+            n: _,
+            span,
+            counts,
+            cells,
+            grades,
+        } = self;
+        RowsMemory {
+            span,
+            counts,
+            cells,
+            grades,
+        }
+    }
+}
