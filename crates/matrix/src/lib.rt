@@ -1,10 +1,10 @@
 // The bit matrix: a network with one bit for each ordered pair of persons.
-pub mod bits;
+mod bits;
 pub mod changing;
 pub mod matrix;
 pub mod opening;
 pub mod reading;
-pub mod words;
+mod words;
 
 pub use changing::BitMatrixChanging;
 pub use matrix::BitMatrix;
