@@ -10,6 +10,11 @@ use matrix::MatrixMemory;
 use networks::Changing;
 use networks::Network;
 use networks::Opening;
+use rows::AdjacencyRows;
+use rows::RowsChanging;
+use rows::RowsMemory;
+use rows::RowsNetwork;
+use rows::RowsOpening;
 use std::error::AnyError;
 
 const POINTS: [i32; 5] = [10, 30, 20, 50, 40];
@@ -17,7 +22,7 @@ const POINTS: [i32; 5] = [10, 30, 20, 50, 40];
 const LINKS: [(usize, usize); 6] = [(0, 1), (0, 2), (1, 2), (2, 3), (2, 4), (3, 4)];
 
 // One line a person: number, points, degree, neighbours.
-fn show(rt: &impl Print, net: &BitMatrix<Points>) -> Result<(), AnyError> {
+fn show(rt: &impl Print, net: &impl Network<Grade = Points>) -> Result<(), AnyError> {
     for u in 0..net.persons() {
         if let Some(grade) = net.grade(u) {
             let points = grade.0;
@@ -43,14 +48,14 @@ fn tell(rt: &impl Print, answer: Result<(), CallFault>) -> Result<(), AnyError> 
     Ok(())
 }
 
-fn link(rt: &impl Print, net: &mut BitMatrix<Points>, u: usize, v: usize) -> Result<(), AnyError> {
+fn link(rt: &impl Print, net: &mut impl Changing<Grade = Points>, u: usize, v: usize) -> Result<(), AnyError> {
     print!(rt, "link {u}-{v}")?;
     tell(rt, net.link(u, v))
 }
 
 fn unlink(
     rt: &impl Print,
-    net: &mut BitMatrix<Points>,
+    net: &mut impl Changing<Grade = Points>,
     u: usize,
     v: usize,
 ) -> Result<(), AnyError> {
@@ -60,7 +65,7 @@ fn unlink(
 
 fn regrade(
     rt: &impl Print,
-    net: &mut BitMatrix<Points>,
+    net: &mut impl Changing<Grade = Points>,
     u: usize,
     points: i32,
 ) -> Result<(), AnyError> {
@@ -73,7 +78,7 @@ fn check(rt: &impl Print, n: usize, memory: &MatrixMemory<Points>) -> Result<(),
     tell(rt, BitMatrix::check(n, memory))
 }
 
-fn tie(rt: &impl Print, net: &mut BitMatrix<Points>) -> Result<(), AnyError> {
+fn tie(rt: &impl Print, net: &mut impl Changing<Grade = Points>) -> Result<(), AnyError> {
     for (u, points) in POINTS.iter().enumerate() {
         regrade(rt, net, u, *points)?;
     }
@@ -83,12 +88,25 @@ fn tie(rt: &impl Print, net: &mut BitMatrix<Points>) -> Result<(), AnyError> {
     Ok(())
 }
 
-fn refuse(rt: &impl Print, net: &mut BitMatrix<Points>) -> Result<(), AnyError> {
+fn refuse(rt: &impl Print, net: &mut impl Changing<Grade = Points>) -> Result<(), AnyError> {
     link(rt, net, 0, 5)?;
     link(rt, net, 3, 3)?;
     link(rt, net, 4, 3)?;
     unlink(rt, net, 0, 4)?;
     regrade(rt, net, 7, 1)
+}
+
+// Rows with a place for one link each.
+fn fill_rows(rt: &LibcRuntime) -> Result<(), AnyError> {
+    let counts = vec![in rt.alloc(); 0u16; 3]?;
+    let cells = vec![in rt.alloc(); 0u16; 3]?;
+    let grades = vec![in rt.alloc(); Points(0); 3]?;
+    let mut net = AdjacencyRows::open(3, RowsMemory { span: 1, counts, cells, grades });
+    let ceiling = net.ceiling();
+    println!(rt, "three persons in rows, at most {ceiling} link each")?;
+    link(rt, &mut net, 0, 1)?;
+    link(rt, &mut net, 0, 2)?;
+    show(rt, &net)
 }
 
 fn run(rt: &LibcRuntime) -> Result<(), AnyError> {
@@ -102,7 +120,8 @@ fn run(rt: &LibcRuntime) -> Result<(), AnyError> {
     show(rt, &net)?;
     refuse(rt, &mut net)?;
     unlink(rt, &mut net, 3, 4)?;
-    show(rt, &net)
+    show(rt, &net)?;
+    fill_rows(rt)
 }
 
 fn main(rt: LibcRuntime) -> Result<(), AnyError> {

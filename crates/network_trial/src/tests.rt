@@ -15,6 +15,11 @@ use networks::CappedChanging;
 use networks::CappedNetwork;
 use networks::Changing;
 use networks::Opening;
+use rows::AdjacencyRows;
+use rows::RowsChanging;
+use rows::RowsMemory;
+use rows::RowsNetwork;
+use rows::RowsOpening;
 use std::test::*;
 
 // What the answers to the list come to: the numbers of the changes, then what the network tells.
@@ -88,6 +93,19 @@ fn matrix_of<G: Grade + Clone + Drop>(rt: LibcRuntime, zero: G) -> Result<BitMat
     let grades = vec![in rt.alloc(); zero; 6]?;
     Ok(BitMatrix::open(5, MatrixMemory { bits, grades }))
 }
+
+fn rows_of<G: Grade + Clone + Drop>(rt: LibcRuntime, span: usize, zero: G) -> Result<AdjacencyRows<G>, Fail> {
+    let counts = vec![in rt.alloc(); 9u16; 6]?;
+    let cells = vec![in rt.alloc(); 9u16; 20]?;
+    let grades = vec![in rt.alloc(); zero; 5]?;
+    let memory = RowsMemory { span, counts, cells, grades };
+    check_eq(code(AdjacencyRows::check(5, &memory)), 0)?;
+    Ok(AdjacencyRows::open(5, memory))
+}
+
+const LOW: Laurels = Laurels { class: 0, score: 0 };
+
+const HIGH: Laurels = Laurels { class: 1, score: 7 };
 
 #[test]
 fn matrix_of_points(rt: LibcRuntime) -> Result<(), Fail> {
