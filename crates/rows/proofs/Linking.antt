@@ -10,12 +10,12 @@ use Rattle.std.specs.Iters.{counting}
 use Rattle.std.specs.shelf.Lists.{kept-by}
 use Rattle.std.proofs.shelf.Lists.{getD-set-other, length-append, length-drop, length-take}
 use Rattle.std.proofs.shelf.Tests.{lt-ltb, eq-eqb, eqb-true, ne-eqb, and-left, and-parts, or-from}
-use Rattle.networks.specs.Changes.{isPair, withLink, withoutLink}
+use Rattle.networks.specs.Changes.{isPair}
 use Rattle.networks.specs.Fixed.{Fixed}
 use Rattle.networks.specs.Net.{Net}
 use Rattle.rows.specs.Memory.{fixedIn}
 use Rattle.rows.specs.Row.{has, Tidy, rowOf, entered, leaving, placeOf, writtenAt, Rewritten}
-use Rattle.rows.specs.Rows.{linkedIn, netIn, Apart, Bothways}
+use Rattle.rows.specs.Rows.{linkedIn, netIn, Bothways}
 use Rattle.rows.proofs.Keeping.{Kept, row-counts, count-degree}
 use Rattle.rows.proofs.Pairing.{one-more, one-less, both-more, both-less}
 use Rattle.rows.proofs.Rewriting.{still-kept, counts-behind, cells-behind, counts-long, cells-long, relinked}

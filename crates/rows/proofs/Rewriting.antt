@@ -1,6 +1,6 @@
 -- One row of the memory rewritten: the other rows, and what lies behind, stay. Assumes nothing.
 use mathlib.Core.Path.{_≡_, refl, sym, ap, ap₂, _∙_, subst}
-use mathlib.Core.Bool.{Bool, true, false, cond, _&&_}
+use mathlib.Core.Bool.{Bool, cond, _&&_}
 use mathlib.Core.List.{List, _++_}
 use mathlib.Core.Logic.{inl, inr}
 use Prim.Native.Nat.{ℕ, _+_, _-_, _*_, _<_, _≤_}
@@ -8,7 +8,7 @@ use native.Mathlib.Omega.{arith}
 use lib.Dec.{eqb, ltb}
 use lib.ListN.{length, getD, set, take, drop}
 use Rattle.std.proofs.shelf.Lists.{append-assoc, drop-at, drop-append-le, drop-drop, drop-set-lt, getD-set-same, getD-set-other, length-append, length-drop, length-set, length-take-le, take-append-drop, take-append-le, take-at}
-use Rattle.std.proofs.shelf.Tests.{cases-lt, cases-eq, cases-order, lt-ltb, le-ltb, eq-eqb, ne-eqb}
+use Rattle.std.proofs.shelf.Tests.{cases-lt, cases-eq, lt-ltb, eq-eqb, ne-eqb}
 use Rattle.rows.specs.Row.{has, Tidy, rowOf, writtenAt}
 use Rattle.rows.specs.Rows.{linkedIn}
 use Rattle.rows.proofs.Keeping.{Kept}

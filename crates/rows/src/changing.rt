@@ -1,5 +1,4 @@
 // Adjacency rows as a network for changing: the ceiling is the span.
-ghost use Rattle.rows.specs.Rows.{netIn};
 use crate::cells::put_in;
 use crate::cells::take_out;
 use crate::reading::RowsNetwork;
