@@ -1,7 +1,7 @@
 -- Rows just opened have no link, and rows handed back hold their network. Assumes nothing.
 use mathlib.Core.Path.{_≡_, refl, sym, ap, ap₂, _∙_, fun-ext, subst}
-use mathlib.Core.Bool.{Bool, true, false, cond, _&&_}
-use mathlib.Core.List.{List, [], _∷_, _++_, map}
+use mathlib.Core.Bool.{Bool, false}
+use mathlib.Core.List.{List, [], _∷_}
 use mathlib.Core.Logic.{inl, inr}
 use Prim.Native.Nat.{ℕ, _+_, _*_, _<_, _≤_}
 use native.Mathlib.Omega.{arith}
@@ -14,7 +14,7 @@ use Rattle.std.proofs.shelf.Elements.{all-weaker}
 use Rattle.std.proofs.shelf.Lists.{drop-at, getD-append-left, getD-replicate, getD-take, length-append, length-drop, length-replicate, length-take-le, take-append-drop}
 use Rattle.std.proofs.shelf.Tests.{cases-lt, and-right}
 use Rattle.networks.specs.Fixed.{Fixed, opened}
-use Rattle.networks.specs.Net.{Net, neighbours, degreeOf}
+use Rattle.networks.specs.Net.{Net, degreeOf}
 use Rattle.rows.specs.declared.rows.AdjacencyRows.{AdjacencyRows}
 use Rattle.rows.specs.Memory.{cleared, fixedIn, HoldsNet}
 use Rattle.rows.specs.Row.{has, Tidy, rowOf}

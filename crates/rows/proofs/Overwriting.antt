@@ -1,17 +1,17 @@
 -- A row changed in place, within the memory of rows. Assumes nothing.
-use mathlib.Core.Path.{_≡_, refl, sym, ap, ap₂, _∙_, subst}
-use mathlib.Core.Bool.{true, false}
-use mathlib.Core.List.{List, _++_}
+use mathlib.Core.Path.{_≡_, sym, ap, ap₂, _∙_}
+use mathlib.Core.Bool.{true}
+use mathlib.Core.List.{List, _∷_, _++_}
 use mathlib.Core.Logic.{inl, inr}
-use Prim.Native.Nat.{ℕ, _+_, _-_, _<_, _≤_}
+use Prim.Native.Nat.{ℕ, suc, _+_, _-_, _<_, _≤_}
 use native.Mathlib.Omega.{arith}
 use borrow.Rule.Slice.PartMut.{putMid}
 use lib.ListN.{length, getD, take, drop}
 use Rattle.std.specs.shelf.Lists.{inserted, removed}
 use Rattle.std.proofs.shelf.Edits.{length-inserted, length-removed}
-use Rattle.std.proofs.shelf.Lists.{append-assoc, drop-drop, drop-append-le, length-take-le, length-drop, take-append-drop, take-take}
+use Rattle.std.proofs.shelf.Lists.{append-assoc, drop-drop, drop-append-le, length-append, length-take, length-take-le, length-drop, take-append-drop, take-take}
 use Rattle.std.proofs.shelf.Tests.{cases-lt, both-ways, le-ltb}
-use Rattle.rows.specs.Row.{has, writtenAt}
+use Rattle.rows.specs.Row.{has, placeOf, entered, leaving, writtenAt}
 use Rattle.rows.proofs.Standing.{has-past}
 
 -- the part of the memory from `first` on, as a slice has it
@@ -24,6 +24,12 @@ placed xs v r below above h = elim (cases-lt r (length xs)) [
   | inl l ↦ l
   | inr l ↦ absurd (both-ways (has v xs) (sym (has-past xs v r below above l) ∙ le-ltb r (length xs) l) h)
 ]
+
+pub entered-long : (v : ℕ) (xs : List ℕ) → length (entered v xs) ≤ length xs + 1
+entered-long v xs = let i = placeOf v xs in omega (arith, length-append (take i xs) (v ∷ drop i xs), length-take i xs, length-drop i xs)
+
+pub leaving-long : (v : ℕ) (xs : List ℕ) → length (leaving v xs) ≤ length xs
+leaving-long v xs = let i = placeOf v xs in omega (arith, length-append (take i xs) (drop (suc i) xs), length-take i xs, length-drop (suc i) xs)
 
 module _ (cells : List ℕ) (first count : ℕ) (room : first + count ≤ length cells) where
   abbrev row : List ℕ

@@ -4,7 +4,7 @@ use mathlib.Core.Bool.{Bool, true, false, not, cond, _&&_, _||_}
 use mathlib.Core.Logic.{inl, inr}
 use Prim.Native.Nat.{ℕ}
 use lib.Dec.{eqb}
-use Rattle.std.proofs.shelf.Tests.{cases-eq, ne-eqb, eqb-true, and-left, and-right, or-from}
+use Rattle.std.proofs.shelf.Tests.{cases-eq, ne-eqb, and-left, and-right, or-from}
 use Rattle.networks.specs.Changes.{isPair}
 use Rattle.rows.specs.Rows.{Apart, Bothways}
 

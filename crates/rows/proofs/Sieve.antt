@@ -7,11 +7,10 @@ use Prim.Native.Nat.{ℕ, zero, suc, _+_, _-_, _<_, _≤_}
 use native.Mathlib.Omega.{arith}
 use native.Mathlib.Nat.{zero-add, add-zero}
 use lib.Dec.{eqb, ltb}
-use lib.ListN.{length, getD}
 use Rattle.std.specs.Iters.{counting}
 use Rattle.std.specs.shelf.Lists.{All, kept-by}
 use Rattle.std.proofs.shelf.Counted.{length-counting, getD-counting}
-use Rattle.std.proofs.shelf.Elements.{all-getD, all-kept-by, all-weaker, kept-by-append}
+use Rattle.std.proofs.shelf.Elements.{all-getD, all-kept-by, all-weaker}
 use Rattle.std.proofs.shelf.Tests.{cases-lt, lt-ltb, le-ltb, eqb-true, and-right}
 use Rattle.rows.specs.Row.{has, Rising}
 use Rattle.rows.proofs.Standing.{has-at, has-none}

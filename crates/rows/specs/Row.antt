@@ -9,6 +9,7 @@
 --     Ready span counts cells u   the row of u lies in memory, is no longer than the span, and rises
 --     writtenAt i xs cells        cells with xs written from the place i on
 --     Rewritten edit span u counts cells counts′ cells′     the row of u is edited, its count too, and all else stays
+--     BothRewritten edit span u v counts cells counts′ cells′     v is edited into the row of u, then u into the row of v
 use mathlib.Core.Path.{_≡_}
 use mathlib.Core.Bool.{Bool, false, _||_}
 use mathlib.Core.List.{List, [], _∷_, _++_}
@@ -53,3 +54,10 @@ writtenAt i xs cells = take i cells ++ (xs ++ drop (i + length xs) cells)
 pub record Rewritten (edit : List ℕ → List ℕ) (span u : ℕ) (counts cells counts′ cells′ : List ℕ) : Type 0 where
   pub counted : counts′ ≡ set counts u (length (edit (rowOf span counts cells u)))
   pub written : cells′ ≡ writtenAt (u * span) (edit (rowOf span counts cells u)) cells
+
+-- the rows of u and v, one after the other
+pub record BothRewritten (edit : ℕ → List ℕ → List ℕ) (span u v : ℕ) (counts cells counts′ cells′ : List ℕ) : Type 0 where
+  pub countsBetween : List ℕ
+  pub cellsBetween : List ℕ
+  pub first : Rewritten (edit v) span u counts cells countsBetween cellsBetween
+  pub second : Rewritten (edit u) span v countsBetween cellsBetween counts′ cells′

@@ -1,7 +1,6 @@
 // Adjacency rows as a network for changing: the ceiling is the span.
-ghost use Rattle.rows.specs.Rows.{netIn};
-use crate::cells::put_in;
-use crate::cells::take_out;
+use crate::pairs::join;
+use crate::pairs::sever;
 use crate::reading::RowsNetwork;
 use crate::rows::AdjacencyRows;
 use faults::CallFault;
@@ -31,8 +30,7 @@ pub impl<G: Grade + Drop> Changing for AdjacencyRows<G> as RowsChanging {
         if self.degree(u) >= span || self.degree(v) >= span {
             return Err(CallFault::AtCeiling);
         }
-        put_in(&mut self.counts, &mut self.cells, span, u, v);
-        put_in(&mut self.counts, &mut self.cells, span, v, u);
+        join(&mut self.counts, &mut self.cells, span, u, v);
         Ok(())
     }
 
@@ -48,8 +46,7 @@ pub impl<G: Grade + Drop> Changing for AdjacencyRows<G> as RowsChanging {
             return Err(CallFault::NotLinked);
         }
         let span = self.span;
-        take_out(&mut self.counts, &mut self.cells, span, u, v);
-        take_out(&mut self.counts, &mut self.cells, span, v, u);
+        sever(&mut self.counts, &mut self.cells, span, u, v);
         Ok(())
     }
 

@@ -2,6 +2,7 @@
 mod cells;
 pub mod changing;
 pub mod opening;
+mod pairs;
 pub mod reading;
 pub mod rows;
 

@@ -1,6 +1,5 @@
 use native.Mathlib.Omega.{arith}
 use mathlib.Core.Path.{_≡_}
-use Prim.Native.Nat.{_≤_}
 use Rattle.rows.proofs.Shifts.{moved-up}
 use Rattle.rows.proofs.cells.insert.Needs as need
 

@@ -1,4 +1,4 @@
-use mathlib.Core.Path.{_≡_, refl, sym, ap, ap₂, _∙_}
+use mathlib.Core.Path.{sym, ap, _∙_}
 use Rattle.faults.specs.Answers.{answered, unless}
 use Rattle.networks.specs.Changes.{withGrade}
 use Rattle.networks.proofs.Refusals.{regrade-granted}

@@ -1,5 +1,5 @@
 use native.Mathlib.Omega.{arith}
-use mathlib.Core.Path.{_≡_, sym, ap, ap₂, _∙_, subst}
+use mathlib.Core.Path.{sym, ap₂, _∙_, subst}
 use Rattle.rows.specs.Row.{Rising, rowOf}
 use Rattle.rows.proofs.Neighbourhoods.{tidy-rising, nobody-near, row-near}
 use Rattle.rows.proofs.Keeping.{kept-in, ready-lent}
