@@ -48,7 +48,12 @@ fn tell(rt: &impl Print, answer: Result<(), CallFault>) -> Result<(), AnyError> 
     Ok(())
 }
 
-fn link(rt: &impl Print, net: &mut impl Changing<Grade = Points>, u: usize, v: usize) -> Result<(), AnyError> {
+fn link(
+    rt: &impl Print,
+    net: &mut impl Changing<Grade = Points>,
+    u: usize,
+    v: usize,
+) -> Result<(), AnyError> {
     print!(rt, "link {u}-{v}")?;
     tell(rt, net.link(u, v))
 }
@@ -101,7 +106,15 @@ fn fill_rows(rt: &LibcRuntime) -> Result<(), AnyError> {
     let counts = vec![in rt.alloc(); 0u16; 3]?;
     let cells = vec![in rt.alloc(); 0u16; 3]?;
     let grades = vec![in rt.alloc(); Points(0); 3]?;
-    let mut net = AdjacencyRows::open(3, RowsMemory { span: 1, counts, cells, grades });
+    let mut net = AdjacencyRows::open(
+        3,
+        RowsMemory {
+            span: 1,
+            counts,
+            cells,
+            grades,
+        },
+    );
     let ceiling = net.ceiling();
     println!(rt, "three persons in rows, at most {ceiling} link each")?;
     link(rt, &mut net, 0, 1)?;

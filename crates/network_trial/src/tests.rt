@@ -94,11 +94,20 @@ fn matrix_of<G: Grade + Clone + Drop>(rt: LibcRuntime, zero: G) -> Result<BitMat
     Ok(BitMatrix::open(5, MatrixMemory { bits, grades }))
 }
 
-fn rows_of<G: Grade + Clone + Drop>(rt: LibcRuntime, span: usize, zero: G) -> Result<AdjacencyRows<G>, Fail> {
+fn rows_of<G: Grade + Clone + Drop>(
+    rt: LibcRuntime,
+    span: usize,
+    zero: G,
+) -> Result<AdjacencyRows<G>, Fail> {
     let counts = vec![in rt.alloc(); 9u16; 6]?;
     let cells = vec![in rt.alloc(); 9u16; 20]?;
     let grades = vec![in rt.alloc(); zero; 5]?;
-    let memory = RowsMemory { span, counts, cells, grades };
+    let memory = RowsMemory {
+        span,
+        counts,
+        cells,
+        grades,
+    };
     check_eq(code(AdjacencyRows::check(5, &memory)), 0)?;
     Ok(AdjacencyRows::open(5, memory))
 }

@@ -6,17 +6,19 @@ use mathlib.Core.Logic.{inl, inr}
 use Prim.Native.Nat.{ℕ, _+_, _*_, _<_, _≤_}
 use native.Mathlib.Omega.{arith}
 use lib.Dec.{ltb}
-use lib.ListN.{length, getD, take, drop, replicate}
+use lib.ListN.{length, getD, take, drop}
 use Rattle.std.specs.Iters.{counting}
 use Rattle.std.specs.Of.Vec.{vec-items}
 use Rattle.std.proofs.shelf.Counted.{fill-by-all}
 use Rattle.std.proofs.shelf.Elements.{all-weaker}
-use Rattle.std.proofs.shelf.Lists.{drop-at, getD-append-left, getD-replicate, getD-take, length-append, length-drop, length-replicate, length-take-le, take-append-drop}
+use Rattle.std.proofs.shelf.Lists.{getD-take, length-take-le, take-append-drop}
 use Rattle.std.proofs.shelf.Tests.{cases-lt, and-right}
 use Rattle.networks.specs.Fixed.{Fixed, opened}
 use Rattle.networks.specs.Net.{Net, degreeOf}
 use Rattle.rows.specs.declared.rows.AdjacencyRows.{AdjacencyRows}
-use Rattle.rows.specs.Memory.{cleared, fixedIn, HoldsNet}
+use Rattle.networks.specs.Places.{filled}
+use Rattle.networks.proofs.Fills.{length-filled, getD-filled, drop-filled}
+use Rattle.rows.specs.Memory.{fixedIn, HoldsNet}
 use Rattle.rows.specs.Row.{has, Tidy, rowOf}
 use Rattle.rows.specs.Rows.{linkedIn, netIn}
 use Rattle.rows.proofs.Keeping.{Kept, kept-in, count-degree}
@@ -27,20 +29,10 @@ tidy-none : (n : ℕ) → Tidy n []
 tidy-none n = sym (kept-none (λ v. has v []) (counting 0 n)
     (all-weaker (λ x. (0 ≤ x) × (x < 0 + n)) (λ x. has x [] ≡ false) (λ x _. refl) (counting 0 n) (all-between 0 n)))
 
-module _ (n : ℕ) (counts : List ℕ) (long : n ≤ length counts) where
-  length-cleared : length (cleared n counts) ≡ length counts
-  length-cleared = omega (arith, length-append (replicate n 0) (drop n counts), length-replicate {A = ℕ} n 0, length-drop n counts)
-
-  drop-cleared : drop n (cleared n counts) ≡ drop n counts
-  drop-cleared = drop-at (replicate n 0) (drop n counts) n (length-replicate n 0)
-
-  count-cleared : (u : ℕ) → u < n → getD (cleared n counts) u 0 ≡ 0
-  count-cleared u h = getD-append-left (replicate n 0) (drop n counts) 0 u (omega (arith, length-replicate {A = ℕ} n 0)) ∙ getD-replicate n u 0 0 h
-
 -- no counts, no links
-module _ (n span : ℕ) (counts cells ks : List ℕ) (is : ks ≡ cleared n counts) (long : n ≤ length counts) where
+module _ (n span : ℕ) (counts cells ks : List ℕ) (is : ks ≡ filled n 0 counts) (long : n ≤ length counts) where
   row-none : (u : ℕ) → u < n → rowOf span ks cells u ≡ []
-  row-none u h = ap (λ t. take (getD t u 0) (drop (u * span) cells)) is ∙ ap (λ k. take k (drop (u * span) cells)) (count-cleared n counts long u h)
+  row-none u h = ap (λ t. take (getD t u 0) (drop (u * span) cells)) is ∙ ap (λ k. take k (drop (u * span) cells)) (getD-filled n 0 counts u 0 h long)
 
   pub linked-none : (u v : ℕ) → linkedIn n span ks cells u v ≡ false
   linked-none u v = elim (cases-lt u n) [
@@ -50,16 +42,16 @@ module _ (n span : ℕ) (counts cells ks : List ℕ) (is : ks ≡ cleared n coun
 
   pub kept-cleared : n * span ≤ length cells → Kept n span ks cells
   kept-cleared room = record {
-    counted = omega (arith, ap length is, length-cleared n counts long);
+    counted = omega (arith, ap length is, length-filled n 0 counts);
     roomy = room;
-    within = λ u h. omega (arith, ap (λ t. getD t u 0) is, count-cleared n counts long u h);
+    within = λ u h. omega (arith, ap (λ t. getD t u 0) is, getD-filled n 0 counts u 0 h long);
     listed = λ u h. subst (Tidy n) (sym (row-none u h)) (tidy-none n);
   }
 
   pub fixed-cleared : {G : Type 0} (grades : List G) → fixedIn n span ks cells grades ≡ fixedIn n span counts cells grades
   fixed-cleared {G} grades =
       let of : ℕ → List ℕ → Fixed G = λ k behind. record { sizes = span ∷ k ∷ length cells ∷ length grades ∷ []; ceiling = span; gradesBehind = drop n grades; cellsBehind = behind ∷ drop (n * span) cells ∷ [] } in
-      ap (λ t. of (length t) (drop n t)) is ∙ ap₂ of (length-cleared n counts long) (drop-cleared n counts long)
+      ap (λ t. of (length t) (drop n t)) is ∙ ap₂ of (length-filled n 0 counts) (drop-filled n 0 counts long)
 
 pub net-unlinked : {G : Type 0} (n span : ℕ) (counts cells : List ℕ) (grades : List G) → ((u v : ℕ) → linkedIn n span counts cells u v ≡ false) → netIn n span counts cells grades ≡ opened n grades
 net-unlinked {G} n span counts cells grades none =

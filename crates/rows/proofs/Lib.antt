@@ -1,5 +1,4 @@
 pub mod Standing
-pub mod Fronts
 pub mod Sieve
 pub mod Stretches
 pub mod Neighbourhoods

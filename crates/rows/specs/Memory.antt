@@ -2,7 +2,6 @@
 --     sizesOf span counts cells grades      what the opening check goes by
 --     refusalBy n sizes           6 for too many persons or too long rows, else 7 for a memory that is short
 --     fixedIn n span counts cells grades    the sizes, the span as the ceiling, and what lies behind
---     cleared k xs                xs with its first k numbers 0
 --     Begins xs cells             cells begins with xs, and is free behind it
 --     HoldsNet net f span counts cells grades     the memory holds just this network
 use mathlib.Core.Path.{_≡_}
@@ -10,7 +9,7 @@ use mathlib.Core.Bool.{cond, _||_}
 use mathlib.Core.List.{List, [], _∷_, _++_, map}
 use Prim.Native.Nat.{ℕ, _*_, _<_}
 use lib.Dec.{ltb}
-use lib.ListN.{length, getD, take, drop, replicate}
+use lib.ListN.{length, getD, take, drop}
 use Rattle.std.specs.Iters.{counting}
 use Rattle.std.specs.declared.option.Option.{Option}
 use Rattle.std.specs.declared.option.Option.the-variants.{Some, None}
@@ -37,9 +36,6 @@ fixedIn n span counts cells grades = record {
   gradesBehind = drop n grades;
   cellsBehind = drop n counts ∷ drop (n * span) cells ∷ [];
 }
-
-abbrev pub cleared : ℕ → List ℕ → List ℕ
-cleared k xs = replicate k 0 ++ drop k xs
 
 abbrev pub Begins : List ℕ → List ℕ → Type 0
 Begins xs cells = take (length xs) cells ≡ xs

@@ -5,7 +5,6 @@ ghost use mathlib.Core.List.{_++_};
 ghost use Prim.Native.Nat.{ℕ, _-_, _^_, _<_, _≤_};
 ghost use lib.ListN.{length, getD, take, drop};
 ghost use Rattle.grades.specs.Places.{onto};
-ghost use Rattle.rows.specs.Memory.{cleared};
 ghost use Rattle.rows.specs.Row.{has, Rising, placeOf, entered, leaving, rowOf, Ready, Rewritten};
 ghost use Rattle.std.specs.Finite.{nth};
 ghost use Rattle.std.specs.shelf.Lists.{inserted, removed};
@@ -66,14 +65,6 @@ pub(crate) fn copy(row: &[u16], places: &mut [u32])
     }
 }
 
-// The u-th of the first n.
-pub(crate) fn item<G: Copy>(items: &[G], n: usize, u: usize) -> Option<G>
-    requires { ⌜ n ≤ length (now items) ⌝ }
-    ensures { λ r. ⌜ r ≡ nth (take n (now (items .entry))) u ⌝ }
-{
-    if u < n { Some(items[u]) } else { None }
-}
-
 // v put in at a place; the numbers from there on move up, and the last place is given up.
 fn insert(row: &mut [u16], at: usize, v: u16)
     requires { ⌜ at < length (now row) ⌝ }
@@ -123,14 +114,4 @@ pub(crate) fn take_out(counts: &mut [u16], cells: &mut [u16], span: usize, u: us
     let at = place(&cells[first..first + count], v);
     remove(&mut cells[first..first + count], at);
     counts[u] = count as u16 - 1;
-}
-
-// The first k numbers made 0.
-pub(crate) fn clear(numbers: &mut [u16], k: usize)
-    requires { ⌜ k ≤ length (now numbers) ⌝ }
-    ensures { λ _. ⌜ now (numbers .exit) ≡ cleared k (now (numbers .entry)) ⌝ }
-{
-    for i in 0..k {
-        numbers[i] = 0;
-    }
 }

@@ -2,7 +2,6 @@
 ghost use mathlib.Core.Path.{_≡_};
 ghost use Rattle.rows.specs.Memory.{sizesOf, refusalFor, refusalBy, fixedIn, HoldsNet};
 ghost use Rattle.std.specs.Of.Vec.{vec-items};
-use crate::cells::clear;
 use crate::reading::RowsNetwork;
 use crate::rows::AdjacencyRows;
 use crate::rows::RowsMemory;
@@ -10,6 +9,7 @@ use faults::CallFault;
 use grades::Grade;
 use networks::Network;
 use networks::Opening;
+use networks::places::fill_front;
 
 // Rows of more than 4,095 numbers, or more than 4,096 of them, are too large; then each memory has to suffice.
 fn refused(n: usize, span: usize, counts: usize, cells: usize, grades: usize) -> Option<CallFault>
@@ -73,7 +73,7 @@ pub impl<G: Grade + Drop> Opening for AdjacencyRows<G> as RowsOpening {
                 grades,
             };
         }
-        clear(&mut counts, n);
+        fill_front(&mut counts, n, 0);
         AdjacencyRows {
             n,
             span,

@@ -7,13 +7,13 @@ ghost use Rattle.rows.specs.Rows.{netIn};
 ghost use Rattle.rows.specs.Sound.{rows-sound};
 ghost use Rattle.std.specs.Of.Vec.{vec-items};
 use crate::cells::copy;
-use crate::cells::item;
 use crate::cells::number;
 use crate::cells::row_of;
 use crate::cells::stands;
 use crate::rows::AdjacencyRows;
 use grades::Grade;
 use networks::Network;
+use networks::places::item;
 
 impl<G> AdjacencyRows<G> {
     // The neighbours of u, as they stand in memory.
