@@ -1,5 +1,6 @@
 // Adjacency rows opened from memory, and the memory handed back.
 ghost use mathlib.Core.Path.{_≡_};
+ghost use Rattle.networks.specs.Places.{filled};
 ghost use Rattle.rows.specs.Memory.{sizesOf, refusalFor, refusalBy, fixedIn, HoldsNet};
 ghost use Rattle.std.specs.Of.Vec.{vec-items};
 use crate::reading::RowsNetwork;
@@ -22,6 +23,13 @@ fn refused(n: usize, span: usize, counts: usize, cells: usize, grades: usize) ->
         return Some(CallFault::ShortMemory);
     }
     None
+}
+
+// No person has a neighbour.
+fn clear_counts(counts: &mut [u16], n: usize)
+    ensures { λ _. ⌜ now (counts .exit) ≡ filled n 0 (now (counts .entry)) ⌝ }
+{
+    fill_front(counts, n, 0);
 }
 
 pub impl<G: Grade + Drop> Opening for AdjacencyRows<G> as RowsOpening {
@@ -73,7 +81,7 @@ pub impl<G: Grade + Drop> Opening for AdjacencyRows<G> as RowsOpening {
                 grades,
             };
         }
-        fill_front(&mut counts, n, 0);
+        clear_counts(&mut counts, n);
         AdjacencyRows {
             n,
             span,

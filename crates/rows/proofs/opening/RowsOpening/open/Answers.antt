@@ -31,7 +31,7 @@ ghost-result-2 g c =
     let refusal = refusalFor n (m .span) (length (m .counts .items)) (length (m .cells .items)) (length (m .grades .items)) in
     let is : c .refused .result ≡ refusal = c .refused .ensures ∙ refusal-at n (m .span) (c .len .ensures ∙ m .counts .ok .0) (c .len-2 .ensures ∙ m .cells .ok .0) (c .len-3 .ensures ∙ m .grades .ok .0) in
     let room = granted-roomy n (m .span) _ _ _ (sym (ap isSome is) ∙ sym (c .is-some-unfit .ensures) ∙ c .if-unfit .left) in
-    let after = refilled-is (m .counts) (c .fill-front .last .places) (omega arith) ∙ c .fill-front .ensures ∙ ap (filled n 0) (c .deref-mut .ensures .value) in
+    let after = refilled-is (m .counts) (c .clear-counts .last .counts) (omega arith) ∙ c .clear-counts .ensures ∙ ap (filled n 0) (c .deref-mut .ensures .value) in
     let kept = kept-cleared n (m .span) (m .counts .items) (m .cells .items) _ after (room .counted) (room .roomy) in
     let none = linked-none n (m .span) (m .counts .items) (m .cells .items) _ after (room .counted) in
     (room .few, ((λ _. room .narrow), (kept .counted, (kept .roomy, (room .graded, (kept .within, (kept .listed, ((λ u. none u u), ((λ u v. none u v ∙ sym (none v u)), tt)))))))))
@@ -45,7 +45,7 @@ returns g c =
     let fits = sym (ap isSome is) ∙ sym (c .is-some-unfit .ensures) ∙ c .if-unfit .left in
     let room = granted-roomy n (m .span) _ _ _ fits in
     let size = size-granted refusal n fits in
-    let after = refilled-is (m .counts) (c .fill-front .last .places) (omega arith) ∙ c .fill-front .ensures ∙ ap (filled n 0) (c .deref-mut .ensures .value) in
+    let after = refilled-is (m .counts) (c .clear-counts .last .counts) (omega arith) ∙ c .clear-counts .ensures ∙ ap (filled n 0) (c .deref-mut .ensures .value) in
     record {
       network = net-unlinked n (m .span) _ (m .cells .items) (m .grades .items) (linked-none n (m .span) (m .counts .items) (m .cells .items) _ after (room .counted))
           ∙ sym (ap (λ k. opened k (m .grades .items)) size);
