@@ -117,18 +117,50 @@ const LOW: Laurels = Laurels { class: 0, score: 0 };
 const HIGH: Laurels = Laurels { class: 1, score: 7 };
 
 #[test]
-fn matrix_of_points(rt: LibcRuntime) -> Result<(), Fail> {
-    let mut net = matrix_of(rt, Points(0))?;
-    check_eq(try_out(&mut net, Points(-1)), FIVE)
+fn matrix_of_each_grade(rt: LibcRuntime) -> Result<(), Fail> {
+    check_eq(
+        try_out(&mut matrix_of(rt.clone()?, Points(0))?, Points(-1)),
+        FIVE,
+    )?;
+    check_eq(try_out(&mut matrix_of(rt, LOW)?, HIGH), FIVE)
 }
 
 #[test]
-fn capped_twice_over_matrix_of_laurels(rt: LibcRuntime) -> Result<(), Fail> {
-    let below = matrix_of(rt, Laurels { class: 0, score: 0 })?;
-    let mut net = Capped {
-        below: Capped { below, limit: 9 },
+fn rows_of_each_grade(rt: LibcRuntime) -> Result<(), Fail> {
+    check_eq(
+        try_out(&mut rows_of(rt.clone()?, 4, Points(0))?, Points(3)),
+        FIVE,
+    )?;
+    check_eq(try_out(&mut rows_of(rt, 1, LOW)?, HIGH), UNDER_ONE)
+}
+
+#[test]
+fn capped_rows_of_each_grade(rt: LibcRuntime) -> Result<(), Fail> {
+    let mut one = Capped {
+        below: rows_of(rt.clone()?, 4, Points(0))?,
         limit: 1,
     };
-    check_eq(net.ceiling(), 1)?;
-    check_eq(try_out(&mut net, Laurels { class: 1, score: 7 }), UNDER_ONE)
+    check_eq(try_out(&mut one, Points(3)), UNDER_ONE)?;
+    let mut three = Capped {
+        below: rows_of(rt, 4, LOW)?,
+        limit: 3,
+    };
+    check_eq(try_out(&mut three, HIGH), FIVE)
+}
+
+#[test]
+fn capped_twice_over_matrix_of_each_grade(rt: LibcRuntime) -> Result<(), Fail> {
+    let below = Capped {
+        below: matrix_of(rt.clone()?, Points(0))?,
+        limit: 1,
+    };
+    check_eq(
+        try_out(&mut Capped { below, limit: 9 }, Points(3)),
+        UNDER_ONE,
+    )?;
+    let below = Capped {
+        below: matrix_of(rt, LOW)?,
+        limit: 9,
+    };
+    check_eq(try_out(&mut Capped { below, limit: 1 }, HIGH), UNDER_ONE)
 }
