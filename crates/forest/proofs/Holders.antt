@@ -1,11 +1,12 @@
 -- Holders: the last earlier round with the key, and what is reached by following them.
-use mathlib.Core.Path.{refl, subst, sym, _≡_}
+use mathlib.Core.Path.{ap, refl, subst, sym, _≡_}
 use mathlib.Core.Bool.{Bool, cond, false, true}
 use mathlib.Core.Logic.{inl, inr, _⊎_}
 use mathlib.Core.Option.{none, Option, some}
 use Prim.Native.Nat.{_<_, suc, zero, ℕ, _≤_}
 use native.Mathlib.Omega.{arith}
-use Rattle.std.proofs.shelf.Tests.{both-ways, cases-eq}
+use Rattle.std.specs.Orderings.{Decides}
+use Rattle.std.proofs.shelf.Tests.{both-ways, cases-eq, eq-eqb, eqb-true}
 use Rattle.theory.specs.Circles.{Circle}
 use Rattle.theory.specs.Cores.{circleAt, core, everyone}
 use Rattle.theory.specs.Graphs.{Graph, Lawful}
@@ -14,7 +15,7 @@ use Rattle.theory.specs.Sets.{Relation, Set, _∈_, _⊆_}
 use Rattle.theory.proofs.Circles.{at-takes, circle-weakest, group-of}
 use Rattle.theory.proofs.Counting.{one-more}
 use Rattle.forest.specs.HolderLaws.{Holders-are-smallest}
-use Rattle.forest.specs.Holders.{holder, lastBelow, Reaches, there, up}
+use Rattle.forest.specs.Holders.{holder, is, lastBelow, Reaches, there, up}
 use Rattle.forest.specs.Rounds.{circle, key, own, round, rounds}
 use Rattle.forest.proofs.Rounds.{circle-at, circle-circle, circle-complete, circle-left, in-rounds, key-in, key-round, left-first, left-mono, own-circle, own-left, own-round, round-own, round-tells, round-weakest}
 
@@ -32,6 +33,10 @@ last-is p (suc n) = go (p n) refl (lastBelow p n) (last-is p n)
     go true e x h = (omega arith, e, λ h l m. omega arith)
     go false e none f = one-more (λ j. j ∈ p → ⊥) n f (both-ways (p n) e)
     go false e (some j) (l, m, f) = (omega arith, m, one-more (λ h. h ∈ p → h ≤ j) n f (λ n′. absurd (both-ways (p n) e n′)))
+
+pub is-tells : (j : ℕ) (h : Option ℕ) → Decides (is j h) (h ≡ some j)
+is-tells j none = ((λ q. absurd (both-ways false refl q)), (λ e. subst (λ x. is j x ≡ true) (sym e) (eq-eqb j j refl)))
+is-tells j (some a) = ((λ q. ap some (eqb-true a j q)), (λ e. subst (λ x. is j x ≡ true) (sym e) (eq-eqb j j refl)))
 
 module _ (g : Graph) (o : Lawful g) (le : Relation) (t : Order le) (str : Strict le) (k : ℕ) where
   pub holder-is : (i : ℕ) (x : Option ℕ) → holder g le k i ≡ x → LastIs (λ j. circle g le k j (key g le k i)) i x

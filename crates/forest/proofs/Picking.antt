@@ -1,34 +1,37 @@
 -- Picking from the tree gives the listing.
 use mathlib.Core.Path.{ap, refl, subst, sym, _∙_, _≡_}
 use mathlib.Core.Bool.{Bool, false, not, true}
-use mathlib.Core.List.{List, map}
+use mathlib.Core.List.{List, map, map-map}
 use mathlib.Core.Option.{none, Option, some}
 use Prim.Native.Nat.{_-_, _<_, ℕ}
 use native.Mathlib.Omega.{arith}
 use lib.ListN.{drop, length}
 use Rattle.std.specs.Iters.{counting}
 use Rattle.std.specs.shelf.Lists.{kept-by}
+use Rattle.std.proofs.shelf.Lists.{drop-map, length-map}
 use Rattle.std.proofs.shelf.Tests.{both-ways, eq-eqb, eqb-true, not-from-false, not-true}
 use Rattle.theory.specs.Circles.{Circle, Innermost}
 use Rattle.theory.specs.Cores.{circleAt}
 use Rattle.theory.specs.Graphs.{Graph, Lawful}
 use Rattle.theory.specs.Listing.{Choice, Entry, entry, every, innermost, isChosen, last, listing, names, ranked}
 use Rattle.theory.specs.Orders.{byNumber, Order, Strict, Weakest}
-use Rattle.theory.specs.Sets.{_among_, anyOf, members, Pairwise, Relation}
+use Rattle.theory.specs.Sets.{_among_, any, anyOf, members, Pairwise, Relation}
+use Rattle.theory.proofs.Counting.{any-tells}
 use Rattle.theory.proofs.Entries.{Head, head-person, head-wanted, wanted-head}
-use Rattle.theory.proofs.Lists.{among-kept, among-map, any-of, drop-among, kept-among, map-among, map-same, pairwise-kept, pairwise-map}
+use Rattle.theory.proofs.Lists.{among-kept, among-map, any-of, drop-among, kept-all, kept-among, kept-map, map-among, map-same, pairwise-kept, pairwise-map}
 use Rattle.theory.proofs.Named.{chosen-tells}
 use Rattle.theory.proofs.Ranked.{ranked-holds, ranked-rising, rising-same}
 use Rattle.theory.proofs.Rankings.{below-weaker, by-number}
-use Rattle.theory.proofs.Sets.{false-since}
-use Rattle.forest.specs.Holders.{holder, is}
+use Rattle.theory.proofs.Sets.{false-since, same-test}
+use Rattle.forest.specs.Holders.{chosenRound, holder, is}
 use Rattle.forest.specs.Picking.{choose, gathered, pick}
+use Rattle.forest.specs.RoundLaws.{Rounds-list}
 use Rattle.forest.specs.Rounds.{circle, key, rounds}
 use Rattle.forest.specs.TreeLaws.{Picking-lists}
 use Rattle.forest.specs.Trees.{named, tree, treeFor, Vertex, vertexAt}
 use Rattle.forest.proofs.Climbing.{gathers, inner-tells, same-key}
-use Rattle.forest.proofs.Holders.{holder-some}
-use Rattle.forest.proofs.Places.{among-placed, placed-among, placed-pairwise}
+use Rattle.forest.proofs.Holders.{holder-some, is-tells}
+use Rattle.forest.proofs.Places.{among-placed, counted-below, placed-among, placed-pairwise}
 use Rattle.forest.proofs.Rounds.{circle-at, circle-circle, circle-complete, keys-rise}
 use Rattle.forest.proofs.Trees.{of-tree}
 
@@ -111,6 +114,38 @@ module _ (g : Graph) (o : Lawful g) (le : Relation) (t : Order le) (str : Strict
       rising-same (byNumber le) (by-number le t) (chosenNames (choose ch (treeFor g le k))) (kept-by (isChosen g le (byNumber le) k ch) (ranked (byNumber le) (g .size))) (choose-rise ch) (pairwise-kept _ (isChosen g le (byNumber le) k ch) (ranked (byNumber le) (g .size)) (ranked-rising (byNumber le) (by-number le t) (g .size)))
       (λ v m. let (i, l, e, want) = chosen-name ch v m in among-kept (isChosen g le (byNumber le) k ch) (ranked (byNumber le) (g .size)) v (ranked-holds (byNumber le) (by-number le t) (g .size) v (head-person g o le t str k ch v want)) (chosen-tells g o le t (byNumber le) (by-number le t) k ch v .1 (head-wanted g o le t str k ch v want)))
       (λ v m. name-chosen ch v (wanted-head g o le t str k ch v (chosen-tells g o le t (byNumber le) (by-number le t) k ch v .0 (kept-among (isChosen g le (byNumber le) k ch) (ranked (byNumber le) (g .size)) v m .1))))
+
+module _ (g : Graph) (o : Lawful g) (le : Relation) (t : Order le) (str : Strict le) (k : ℕ) where
+  chosen-rounds : (ch : Choice) → chosenNames g o le t str k (choose ch (treeFor g le k)) ≡ map (key g le k) (kept-by (chosenRound g le k ch) (counting 0 (rounds g le k)))
+  unfolding chosenNames choose treeFor vertexAt chosenRound holds
+  chosen-rounds every = map-map (λ x. x .weakest) (vertexAt g le k) (counting 0 (rounds g le k)) ∙ ap (map (key g le k)) (sym (kept-all (λ _. true) (counting 0 (rounds g le k)) (λ _ _. refl)))
+  chosen-rounds innermost =
+      ap (map (λ x. x .weakest)) (kept-map _ (vertexAt g le k) (chosenRound g le k innermost) (counting 0 (rounds g le k)) (λ i m. same i (counted-below (rounds g le k) i m)))
+      ∙ map-map (λ x. x .weakest) (vertexAt g le k) (kept-by (chosenRound g le k innermost) (counting 0 (rounds g le k)))
+    where
+      test : (i : ℕ) → i < rounds g le k → anyOf (holds g o le t str k i) (treeFor g le k) ≡ any (λ j. is i (holder g le k j)) (rounds g le k)
+      test i l =
+          same-test _ _ (λ h. let (j, b, e) = held-child g o le t str k i l h in any-tells (λ j. is i (holder g le k j)) (rounds g le k) .1 (j, b, is-tells i (holder g le k j) .1 e))
+          (λ h. let (j, b, q) = any-tells (λ j. is i (holder g le k j)) (rounds g le k) .0 h in child-held g o le t str k i j b (is-tells i (holder g le k j) .0 q))
+
+      same : (i : ℕ) → i < rounds g le k → not (anyOf (λ y. is (key g le k i) (y .under)) (map (vertexAt g le k) (counting 0 (rounds g le k)))) ≡ not (any (λ j. is i (holder g le k j)) (rounds g le k))
+      same i l = ap not (test i l)
+
+pub rounds-list : Rounds-list
+unfolding listing names last entry chosenNames
+rounds-list g o le t str k r ch =
+    ap (λ xs. map (entry g le k) (drop (length xs - r) xs)) (sym (names-same g o le t str k ch) ∙ chosen-rounds g o le t str k ch)
+    ∙ ap (map (entry g le k)) (ap (λ n. drop (n - r) (map (key g le k) chosen)) (length-map chosen (key g le k)) ∙ drop-map (key g le k) (length chosen - r) chosen)
+    ∙ map-map (entry g le k) (key g le k) (drop (length chosen - r) chosen)
+    ∙ map-same _ _ (drop (length chosen - r) chosen) each
+  where
+    chosen : List ℕ
+    chosen = kept-by (chosenRound g le k ch) (counting 0 (rounds g le k))
+
+    each : (i : ℕ) → i among drop (length chosen - r) chosen → entry g le k (key g le k i) ≡ (key g le k i, members (circle g le k i) (g .size))
+    each i m =
+        let n = kept-among (chosenRound g le k ch) (counting 0 (rounds g le k)) i (drop-among (length chosen - r) chosen i m) .0 in
+        ap (λ S. (key g le k i, members S (g .size))) (sym (circle-at g o le t str k i (counted-below (rounds g le k) i n)))
 
 pub picking-lists : Picking-lists
 unfolding pick listing names last entry chosenNames

@@ -1,14 +1,14 @@
 -- Lists made from a function of the place, what stands in them, and the largest of numbers.
 use mathlib.Core.Path.{ap, refl, subst, sym, _≡_}
-use mathlib.Core.Bool.{Bool, cond, false, true}
+use mathlib.Core.Bool.{cond}
 use mathlib.Core.Logic.{inl, inr, _≢_, _⊎_}
-use mathlib.Core.List.{[], map, _∷_}
+use mathlib.Core.List.{map, _∷_}
 use mathlib.Core.Option.{Option}
 use Prim.Native.Nat.{_+_, _<_, max, suc, zero, ℕ, _≤_}
 use native.Mathlib.Omega.{arith}
 use lib.Dec.{eqb}
 use Rattle.std.specs.Iters.{counting}
-use Rattle.std.specs.shelf.Lists.{kept-by}
+use Rattle.std.proofs.shelf.Lists.{map-id}
 use Rattle.std.proofs.shelf.Tests.{cases-eq, eq-eqb, ne-eqb}
 use Rattle.theory.specs.Sets.{_among_, Pairwise}
 use Rattle.theory.proofs.Lists.{all-from}
@@ -36,13 +36,8 @@ module _ {A : Type 0} (f : ℕ → A) where
     placed-pairwise R (a + 1) n (λ i j l b. h i j l (omega arith)),
   )
 
-  pub kept-placed-all : (p : A → Bool) (a n : ℕ) → ((i : ℕ) → p (f i) ≡ true) → kept-by p (map f (counting a n)) ≡ map f (counting a n)
-  kept-placed-all p a zero h = refl
-  kept-placed-all p a (suc n) h = rw (h a) (ap (λ xs. f a ∷ xs) (kept-placed-all p (a + 1) n h))
-
-  pub kept-placed-none : (p : A → Bool) (a n : ℕ) → ((i : ℕ) → p (f i) ≡ false) → kept-by p (map f (counting a n)) ≡ []
-  kept-placed-none p a zero h = refl
-  kept-placed-none p a (suc n) h = rw (h a) (kept-placed-none p (a + 1) n h)
+pub counted-below : (n i : ℕ) → i among counting 0 n → i < n
+counted-below n i m = let (j, _, b, e) = among-placed (λ j. j) 0 n i (subst (λ xs. i among xs) (sym (map-id (counting 0 n))) m) in omega arith
 
 pub under-placed : (f : ℕ → Vertex) (a n i : ℕ) → a ≤ i → i < a + n → ((j : ℕ) → a ≤ j → j < i → f j .weakest ≢ f i .weakest) → underOf (map f (counting a n)) (f i .weakest) ≡ f i .under
 unfolding underOf

@@ -2,11 +2,11 @@
 use mathlib.Core.Path.{ap, refl, subst, sym, _∙_, _≡_}
 use mathlib.Core.Bool.{_&&_, Bool, cond, false, true}
 use mathlib.Core.Logic.{inl, inr, _⊎_}
-use mathlib.Core.Option.{none, Option, some}
+use mathlib.Core.Option.{some}
 use Prim.Native.Nat.{_+_, _<_, suc, zero, ℕ, _≤_}
 use native.Mathlib.Omega.{arith}
 use lib.Dec.{leb}
-use Rattle.std.proofs.shelf.Tests.{and-from, and-parts, both-ways, cases-bool, cases-eq, cases-lt, eq-eqb, eqb-true, le-leb, leb-false, leb-true}
+use Rattle.std.proofs.shelf.Tests.{and-from, and-parts, both-ways, cases-bool, cases-eq, cases-lt, le-leb, leb-false, leb-true}
 use Rattle.theory.specs.Graphs.{Graph, Lawful}
 use Rattle.theory.specs.Orders.{Order, Strict}
 use Rattle.theory.specs.Sets.{bit, count, Relation, Set, total, _∈_}
@@ -16,7 +16,7 @@ use Rattle.theory.proofs.Totals.{count-total, rows-columns, total-row, total-sa
 use Rattle.forest.specs.HolderLaws.{Adding-up-is-whole, Sizes-add-up}
 use Rattle.forest.specs.Holders.{holder, is, totalFrom}
 use Rattle.forest.specs.Rounds.{circle, key, own, rounds}
-use Rattle.forest.proofs.Holders.{circle-round, holder-some, key-held, nest, parts}
+use Rattle.forest.proofs.Holders.{circle-round, holder-some, is-tells, key-held, nest, parts}
 use Rattle.forest.proofs.Rounds.{own-circle, own-round}
 
 -- if each that passes p passes q, or R at one number, the count is a sum
@@ -37,16 +37,6 @@ bit-none : (a b : Bool) (c : ℕ) → a ≡ false → b ≡ false → c ≡ 0 �
 bit-none a b c e x y = omega (arith, ap bit e, ap bit x)
 
 module _ (g : Graph) (o : Lawful g) (le : Relation) (t : Order le) (str : Strict le) (k j : ℕ) (bj : j < rounds g le k) where
-  is-from : (i : ℕ) → is j (holder g le k i) ≡ true → holder g le k i ≡ some j
-  is-from i = go (holder g le k i) refl
-    where
-      go : (x : Option ℕ) → holder g le k i ≡ x → is j x ≡ true → holder g le k i ≡ some j
-      go none e h = absurd (both-ways false refl h)
-      go (some a) e h = e ∙ ap some (eqb-true a j h)
-
-  is-in : (i : ℕ) → holder g le k i ≡ some j → is j (holder g le k i) ≡ true
-  is-in i e = subst (λ x. is j x ≡ true) (sym e) (eq-eqb j j refl)
-
   child-sub : (i v : ℕ) → holder g le k i ≡ some j → v ∈ circle g le k i → (j < i) × (v ∈ circle g le k j)
   child-sub i v e m = let (a, p, f) = holder-some g o le t str k i j (circle-round g o le t str k i v m .1) e in (a, p v m)
 
@@ -74,14 +64,14 @@ module _ (g : Graph) (o : Lawful g) (le : Relation) (t : Order le) (str : Strict
   one-member : (v : ℕ) → bit (circle g le k j v) ≡ bit (own g le k j v) + count (λ i. is j (holder g le k i) && circle g le k i v) (rounds g le k)
   one-member v = elim (cases-bool (circle g le k j v)) [
     | inl m ↦ bit-both _ _ _ m (go m (cases-bool (own g le k j v)))
-    | inr f ↦ bit-none _ _ _ f (false-since _ (λ n. both-ways _ f (own-circle g o le t str k j bj v n))) (count-none _ (rounds g le k) (λ i l h. let (a, b) = and-parts _ _ h in both-ways _ f (child-sub i v (is-from i a) b .1)))
+    | inr f ↦ bit-none _ _ _ f (false-since _ (λ n. both-ways _ f (own-circle g o le t str k j bj v n))) (count-none _ (rounds g le k) (λ i l h. let (a, b) = and-parts _ _ h in both-ways _ f (child-sub i v (is-tells j (holder g le k i) .0 a) b .1)))
   ]
     where
       go : v ∈ circle g le k j → (own g le k j v ≡ true) ⊎ (own g le k j v ≡ false) → ((own g le k j v ≡ true) × (count (λ i. is j (holder g le k i) && circle g le k i v) (rounds g le k) ≡ 0)) ⊎ ((own g le k j v ≡ false) × (count (λ i. is j (holder g le k i) && circle g le k i v) (rounds g le k) ≡ 1))
-      go m (inl n) = inl (n, count-none _ (rounds g le k) (λ i l h. let (a, b) = and-parts _ _ h in child-own i v (is-from i a) b n))
+      go m (inl n) = inl (n, count-none _ (rounds g le k) (λ i l h. let (a, b) = and-parts _ _ h in child-own i v (is-tells j (holder g le k i) .0 a) b n))
       go m (inr f) = elim (parts g o le t str k j v m) [
         | inl n ↦ absurd (both-ways _ f n)
-        | inr x ↦ let (i, l, e, n) = x in inr (f, count-one _ (rounds g le k) i l (and-from _ _ (is-in i e) n) (λ h _ q. let (a, b) = and-parts _ _ q in child-once h i v (is-from h a) e b n))
+        | inr x ↦ let (i, l, e, n) = x in inr (f, count-one _ (rounds g le k) i l (and-from _ _ (is-tells j (holder g le k i) .1 e) n) (λ h _ q. let (a, b) = and-parts _ _ q in child-once h i v (is-tells j (holder g le k h) .0 a) e b n))
       ]
 
 pub sizes-add-up : Sizes-add-up
@@ -134,4 +124,4 @@ adding-up-is-whole g o le t str k own-of whole sum h l = (
     F i = cond (is h (holder g le k i)) (whole i) 0
 
     early : (i : ℕ) → i < rounds g le k → i ≤ h → F i ≡ 0
-    early i c d = ap (λ b. cond b (whole i) 0) (false-since _ (λ q. let e = is-from g o le t str k h l i q in let z = holder-some g o le t str k i h c e .0 in omega arith))
+    early i c d = ap (λ b. cond b (whole i) 0) (false-since _ (λ q. let e = is-tells h (holder g le k i) .0 q in let z = holder-some g o le t str k i h c e .0 in omega arith))

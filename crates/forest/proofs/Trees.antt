@@ -14,23 +14,36 @@ use Rattle.theory.specs.Graphs.{Graph, Lawful}
 use Rattle.theory.specs.Orders.{Order, Strict}
 use Rattle.theory.specs.Sets.{_among_, Relation}
 use Rattle.theory.proofs.Cores.{core-within}
-use Rattle.theory.proofs.Lists.{kept-among}
+use Rattle.theory.proofs.Lists.{kept-all, kept-among, kept-none}
 use Rattle.theory.proofs.Numbers.{number-tells}
 use Rattle.forest.specs.Picking.{ofNumber}
 use Rattle.forest.specs.Rounds.{left, rounds}
 use Rattle.forest.specs.TreeLaws.{Vertices-for-k}
 use Rattle.forest.specs.Trees.{largest, tree, treeFor, treesFrom, Vertex, vertexAt}
-use Rattle.forest.proofs.Places.{among-placed, kept-placed-all, kept-placed-none, largest-is, placed-among}
+use Rattle.forest.proofs.Places.{among-placed, largest-is, placed-among}
 use Rattle.forest.proofs.Rounds.{rounds-in}
+
+pub vertex-number : (g : Graph) (le : Relation) (k i : ℕ) → vertexAt g le k i .k ≡ k
+unfolding vertexAt
+vertex-number g le k i = refl
+
+module _ (g : Graph) (le : Relation) where
+  pub among-tree : (k : ℕ) (x : Vertex) → x among treeFor g le k → (i : ℕ) × (i < rounds g le k) × (x ≡ vertexAt g le k i) × (x .k ≡ k)
+  unfolding treeFor
+  among-tree k x m = let (i, _, b, e) = among-placed (vertexAt g le k) 0 (rounds g le k) x m in (i, omega arith, e, ap (λ x. x .k) e ∙ vertex-number g le k i)
+
+  pub tree-among : (k i : ℕ) → i < rounds g le k → vertexAt g le k i among treeFor g le k
+  unfolding treeFor
+  tree-among k i b = placed-among (vertexAt g le k) 0 (rounds g le k) i (omega arith) (omega arith)
 
 module _ (g : Graph) (le : Relation) where
   of-same : (k : ℕ) → ofNumber k (treeFor g le k) ≡ treeFor g le k
-  unfolding ofNumber treeFor vertexAt
-  of-same k = kept-placed-all (vertexAt g le k) (λ x. eqb (x .k) k) 0 (rounds g le k) (λ i. eq-eqb k k refl)
+  unfolding ofNumber
+  of-same k = kept-all (λ x. eqb (x .k) k) (treeFor g le k) (λ x m. eq-eqb (x .k) k (among-tree g le k x m .3))
 
   of-other : (k j : ℕ) → j ≢ k → ofNumber k (treeFor g le j) ≡ []
-  unfolding ofNumber treeFor vertexAt
-  of-other k j d = kept-placed-none (vertexAt g le j) (λ x. eqb (x .k) k) 0 (rounds g le j) (λ i. ne-eqb j k d)
+  unfolding ofNumber
+  of-other k j d = kept-none (λ x. eqb (x .k) k) (treeFor g le j) (λ x m. ne-eqb (x .k) k (λ e. d (sym (among-tree g le j x m .3) ∙ e)))
 
   of-append : (k : ℕ) (xs ys : List Vertex) → ofNumber k (xs ++ ys) ≡ ofNumber k xs ++ ofNumber k ys
   unfolding ofNumber
@@ -75,19 +88,6 @@ module _ (g : Graph) (o : Lawful g) (le : Relation) (t : Order le) (str : Strict
 pub vertices-for-k : Vertices-for-k
 unfolding treeFor
 vertices-for-k g o le t str k l = of-tree g o le t str k l
-
-pub vertex-number : (g : Graph) (le : Relation) (k i : ℕ) → vertexAt g le k i .k ≡ k
-unfolding vertexAt
-vertex-number g le k i = refl
-
-module _ (g : Graph) (le : Relation) where
-  pub among-tree : (k : ℕ) (x : Vertex) → x among treeFor g le k → (i : ℕ) × (i < rounds g le k) × (x ≡ vertexAt g le k i) × (x .k ≡ k)
-  unfolding treeFor
-  among-tree k x m = let (i, _, b, e) = among-placed (vertexAt g le k) 0 (rounds g le k) x m in (i, omega arith, e, ap (λ x. x .k) e ∙ vertex-number g le k i)
-
-  pub tree-among : (k i : ℕ) → i < rounds g le k → vertexAt g le k i among treeFor g le k
-  unfolding treeFor
-  tree-among k i b = placed-among (vertexAt g le k) 0 (rounds g le k) i (omega arith) (omega arith)
 
 pub of-among : (k : ℕ) (vs : List Vertex) (x : Vertex) → x among ofNumber k vs → x among vs
 unfolding ofNumber

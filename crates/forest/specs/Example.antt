@@ -11,7 +11,7 @@ use Rattle.theory.specs.Sets.{anyOf}
 use Rattle.theory.specs.Listing.{every, innermost}
 use Rattle.theory.specs.Example.{bowTie, byPoints, computed}
 use Rattle.forest.specs.Rounds.{next, left, key, own, circle, rounds, round}
-use Rattle.forest.specs.Holders.{lastBelow, holder, is, totalFrom}
+use Rattle.forest.specs.Holders.{lastBelow, holder, is, chosenRound, totalFrom}
 use Rattle.forest.specs.Trees.{Vertex, TreeOf, vertexAt, treeFor, treesFrom, largest, tree, entries}
 use Rattle.forest.specs.Picking.{ofNumber, underOf, climbs, gathered, choose, pick}
 
@@ -19,7 +19,7 @@ abbrev pub vertex : ℕ → ℕ → Option ℕ → List ℕ → Vertex
 vertex k w h ps = record { k = k; weakest = w; under = h; persons = ps }
 
 unfoldable pub grown : ℕ
-unfolding computed next left key own circle rounds round lastBelow holder totalFrom vertexAt treeFor treesFrom largest tree entries ofNumber underOf climbs gathered choose pick
+unfolding computed next left key own circle rounds round lastBelow holder chosenRound totalFrom vertexAt treeFor treesFrom largest tree entries ofNumber underOf climbs gathered choose pick
 grown = 0
 
 abbrev pub bowTieVertices : List Vertex

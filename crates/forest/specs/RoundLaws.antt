@@ -3,20 +3,23 @@
 --     Rounds-meet-circles-once    the rounds meet every circle once, rising, and drop each person of the core once
 --     Rounds-by-steps             a loop that takes the weakest of those left does the rounds, and ends after the last
 --     Peeling-is-rounds           peeling is the rounds in order
+--     Rounds-list                 the listing is the last r of the rounds that are chosen, each with its key and its circle's members
 --     Innermost-by-rounds         a circle is innermost if it is dropped whole, if as many are dropped as it has members, and if it is no circle's holder
 use mathlib.Core.Path.{_≡_}
 use mathlib.Core.List.{map}
 use mathlib.Core.Option.{some}
 use Prim.Native.Nat.{ℕ, suc, _≤_, _<_}
 use Rattle.std.specs.Iters.{counting}
-use Rattle.theory.specs.Sets.{Set, Relation, _∈_, _⊆_, without, count}
+use Rattle.std.specs.shelf.Lists.{kept-by}
+use Rattle.theory.specs.Sets.{Set, Relation, _∈_, _⊆_, without, count, members}
 use Rattle.theory.specs.Graphs.{Graph, Lawful}
 use Rattle.theory.specs.Orders.{Order, Strict, Below, Weakest}
 use Rattle.theory.specs.Circles.{Circle, Innermost}
 use Rattle.theory.specs.Cores.{everyone, core, component}
 use Rattle.theory.specs.Peeling.{dropped, peel}
+use Rattle.theory.specs.Listing.{Choice, last, listing}
 use Rattle.forest.specs.Rounds.{left, key, own, circle, rounds, round}
-use Rattle.forest.specs.Holders.{holder}
+use Rattle.forest.specs.Holders.{holder, chosenRound}
 
 pub record Rounded (g : Graph) (le : Relation) (k : ℕ) : Type 0 where
   -- each round has its key, drops it, and its circle is a circle with the key as its weakest
@@ -56,3 +59,8 @@ Innermost-by-rounds =
     × (own g le k i ≡ circle g le k i → Innermost (Circle g le k) (circle g le k i))
     × (count (own g le k i) (g .size) ≡ count (circle g le k i) (g .size) → Innermost (Circle g le k) (circle g le k i))
     × (((j : ℕ) → j < rounds g le k → holder g le k j ≡ some i → ⊥) → Innermost (Circle g le k) (circle g le k i))
+
+abbrev pub Rounds-list : Type 0
+Rounds-list =
+    (g : Graph) → Lawful g → (le : Relation) → Order le → Strict le → (k r : ℕ) (choice : Choice) →
+    listing g le k r choice ≡ map (λ i. (key g le k i, members (circle g le k i) (g .size))) (last r (kept-by (chosenRound g le k choice) (counting 0 (rounds g le k))))

@@ -93,6 +93,25 @@ kept-among p (y ∷ ys) x m = go (p y) refl m (kept-among p ys x)
     go true e (inr n) ih = let (a, q) = ih n in (inr a, q)
     go false e n ih = let (a, q) = ih n in (inr a, q)
 
+pub kept-all : {A : Type 0} (p : A → Bool) (xs : List A) → ((x : A) → x among xs → p x ≡ true) → kept-by p xs ≡ xs
+kept-all p [] h = refl
+kept-all p (x ∷ xs) h = rw (h x (inl refl)) (ap (λ ys. x ∷ ys) (kept-all p xs (λ y m. h y (inr m))))
+
+pub kept-none : {A : Type 0} (p : A → Bool) (xs : List A) → ((x : A) → x among xs → p x ≡ false) → kept-by p xs ≡ []
+kept-none p [] h = refl
+kept-none p (x ∷ xs) h = rw (h x (inl refl)) (kept-none p xs (λ y m. h y (inr m)))
+
+-- keeping after a map, and before it
+pub kept-map : {A B : Type 0} (p : B → Bool) (f : A → B) (q : A → Bool) (xs : List A) → ((x : A) → x among xs → p (f x) ≡ q x) → kept-by p (map f xs) ≡ map f (kept-by q xs)
+kept-map p f q [] h = refl
+kept-map p f q (x ∷ xs) h = go (p (f x)) (q x) (h x (inl refl)) (kept-map p f q xs (λ y m. h y (inr m)))
+  where
+    go : (a b : Bool) → a ≡ b → kept-by p (map f xs) ≡ map f (kept-by q xs) → cond a (f x ∷ kept-by p (map f xs)) (kept-by p (map f xs)) ≡ map f (cond b (x ∷ kept-by q xs) (kept-by q xs))
+    go true true e ih = ap (λ ys. f x ∷ ys) ih
+    go false false e ih = ih
+    go true false e ih = absurd (both-ways true e refl)
+    go false true e ih = absurd (both-ways false refl e)
+
 pub among-append : {A : Type 0} (xs ys : List A) (x : A) → x among (xs ++ ys) → (x among xs) ⊎ (x among ys)
 among-append [] ys x m = inr m
 among-append (y ∷ xs) ys x (inl e) = inl (inl e)
