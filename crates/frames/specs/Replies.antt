@@ -3,6 +3,7 @@
 --     replyBytes p                its kind and fields
 --     layerOf b                   the layer of that number
 --     replyOf bs                  the reply whose kind and fields stand in the bytes
+--     refusalOf f line            the reply that tells the refusal f of that line
 --     ReplyFits p                      the fields are in the range of their types
 use mathlib.Core.List.{List, [], _∷_, _++_}
 use mathlib.Core.Bool.{cond}
@@ -12,12 +13,13 @@ use lib.ListN.{getD}
 use Rattle.std.specs.declared.option.Option.{Option}
 use Rattle.std.specs.declared.option.Option.the-variants.{Some, None}
 use Rattle.grades.specs.Encoding.{bytes32}
+use Rattle.frames.specs.declared.fault.FrameFault.{FrameFault}
 use Rattle.frames.specs.declared.fault.Layer.{Layer}
 use Rattle.frames.specs.declared.fault.Layer.the-variants as layer
 use Rattle.frames.specs.declared.reply.Reply.{Reply}
 use Rattle.frames.specs.declared.reply.Reply.the-variants.{Done, Entries, Circle, Member, Core, Holder, NoHolder, Refusal}
 use Rattle.frames.specs.Frames.{kindIn, bytes16, wordAt, longAt}
-use Rattle.frames.specs.Refusals.{layerNumber}
+use Rattle.frames.specs.Refusals.{faultNumber, faultLayer, layerNumber}
 
 abbrev pub replyKind : Reply → ℕ
 replyKind (Done kind) = 128
@@ -69,3 +71,6 @@ ReplyFits (Core person number) = (person < 65536) × (number < 65536)
 ReplyFits (Holder person) = person < 65536
 ReplyFits NoHolder = Unit {0}
 ReplyFits (Refusal number from line) = (number < 256) × (line < 4294967296)
+
+abbrev pub refusalOf : FrameFault → ℕ → Reply
+refusalOf f line = Refusal (faultNumber f) (faultLayer f) line

@@ -3,7 +3,7 @@ ghost use mathlib.Core.Path.{_≡_};
 ghost use Rattle.frames.specs.declared.fault.FrameFault.the-variants.{Line};
 ghost use Rattle.frames.specs.Refusals.{faultNumber, faultLayer, layerNumber};
 
-#[derive(Clone, Copy, PartialEq, Eq, Debug)]
+#[derive(Clone, Copy)]
 pub enum LineFault {
     // the line is empty, has an odd number of characters or more than 64
     WrongSize,
@@ -11,7 +11,7 @@ pub enum LineFault {
     NoDigit,
 }
 
-#[derive(Clone, Copy, PartialEq, Eq, Debug)]
+#[derive(Clone, Copy)]
 pub enum FrameFault {
     // there is no frame: the line was refused
     Line(LineFault),
@@ -50,7 +50,7 @@ pub(crate) fn layer_number(layer: Layer) -> u8
 }
 
 // The number by which a refusal is told to people and programs.
-pub fn number_of(fault: FrameFault) -> u8
+pub(crate) fn number_of(fault: FrameFault) -> u8
     ensures { λ r. ⌜ r ≡ faultNumber fault ⌝ }
 {
     match fault {
@@ -62,7 +62,7 @@ pub fn number_of(fault: FrameFault) -> u8
     }
 }
 
-pub fn layer_of(fault: FrameFault) -> Layer
+pub(crate) fn layer_of(fault: FrameFault) -> Layer
     ensures { λ r. ⌜ r ≡ faultLayer fault ⌝ }
 {
     match fault {

@@ -6,7 +6,7 @@ use crate::request;
 use grades::Wire;
 
 // From kind to length, check byte included, 0 for no kind; of 2, without the grade.
-pub const LENGTHS: [u8; 256] = *b"\
+pub(crate) const LENGTHS: [u8; 256] = *b"\
     \0\x04\x04\x06\x06\x07\x02\x07\x02\x06\0\0\0\0\0\0\
     \0\0\0\0\0\0\0\0\0\0\0\0\0\0\0\0\
     \0\0\0\0\0\0\0\0\0\0\0\0\0\0\0\0\
@@ -25,14 +25,14 @@ pub const LENGTHS: [u8; 256] = *b"\
     \0\0\0\0\0\0\0\0\0\0\0\0\0\0\0\x08\
 ";
 
-pub fn table_length(kind: u8) -> usize
+pub(crate) fn table_length(kind: u8) -> usize
     ensures { λ r. ⌜ r ≡ tableLength kind ⌝ }
 {
     LENGTHS[kind as usize] as usize
 }
 
 // A regrade also holds a grade.
-pub fn length_of<G: Wire>(kind: u8) -> usize
+pub(crate) fn length_of<G: Wire>(kind: u8) -> usize
     ensures { λ r. ⌜ r ≡ lengthOf (G·Wire .size) kind ⌝ }
 {
     if kind == request::REGRADE {

@@ -20,7 +20,7 @@ fn wrong_size(n: usize) -> bool
 }
 
 // A refused line leaves the frame as it was.
-pub fn read_line(line: &[u8], frame: &mut Frame) -> Result<(), LineFault>
+pub(crate) fn read_line(line: &[u8], frame: &mut Frame) -> Result<(), LineFault>
     ensures answer { λ r. ⌜ r ≡ granted (lineFault (now (line .entry))) ⌝ }
     ensures after { λ _. ⌜ now (frame .exit) ≡ frameAfter (now (frame .entry)) (now (line .entry)) ⌝ }
 {
@@ -40,7 +40,7 @@ pub fn read_line(line: &[u8], frame: &mut Frame) -> Result<(), LineFault>
     Ok(())
 }
 
-pub fn write_line(frame: Frame) -> Line
+pub(crate) fn write_line(frame: Frame) -> Line
     ensures { λ r. ⌜ r ≡ typed (lineOf (held frame)) ⌝ }
 {
     let len = frame.len.min(32);

@@ -1,7 +1,10 @@
 // What a program answers.
 ghost use mathlib.Core.Path.{_≡_};
-ghost use Rattle.frames.specs.Replies.{replyKind};
+ghost use Rattle.frames.specs.Replies.{replyKind, refusalOf};
+use crate::fault::FrameFault;
 use crate::fault::Layer;
+use crate::fault::layer_of;
+use crate::fault::number_of;
 
 pub const DONE: u8 = 0x80;
 
@@ -48,5 +51,16 @@ impl Reply {
             Reply::NoHolder => NO_HOLDER,
             Reply::Refusal { .. } => REFUSAL,
         }
+    }
+}
+
+// What is answered to the line of that number, where it is refused.
+pub fn refusal(fault: FrameFault, line: u32) -> Reply
+    ensures { λ r. ⌜ r ≡ refusalOf fault line ⌝ }
+{
+    Reply::Refusal {
+        number: number_of(fault),
+        layer: layer_of(fault),
+        line,
     }
 }
