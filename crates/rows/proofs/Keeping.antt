@@ -9,7 +9,7 @@ use Rattle.std.specs.shelf.Lists.{kept-by}
 use Rattle.std.specs.Of.Vec.{vec-items}
 use Rattle.rows.specs.declared.rows.AdjacencyRows.{AdjacencyRows}
 use Rattle.rows.specs.Row.{Ready, rowOf}
-use Rattle.rows.specs.Rows.{linkedIn, Within, Listed}
+use Rattle.rows.specs.Rows.{linkedIn, Within, Listed, Apart, Bothways}
 use Rattle.rows.proofs.Neighbourhoods.{tidy-rising, row-near}
 use Rattle.rows.proofs.Overwriting.{row-long}
 use Rattle.rows.proofs.Stretches.{row-ends, first-small}
@@ -23,6 +23,11 @@ pub record Kept (n span : ℕ) (counts cells : List ℕ) : Type 0 where
 
 pub kept-in : {G : Type 0} (s : AdjacencyRows G) → Kept (s .n) (s .span) (vec-items (s .counts)) (vec-items (s .cells))
 kept-in s = record { counted = s .counted; roomy = s .roomy; within = s .within; listed = s .listed }
+
+-- the facts in the order in which the rows owe them
+pub owed : {n span : ℕ} {counts cells : List ℕ} {Few Narrow Graded : Type 0} → Few → Narrow → Graded → Kept n span counts cells → Apart (linkedIn n span counts cells) → Bothways (linkedIn n span counts cells)
+    → Few × (Narrow × ((n ≤ length counts) × ((n * span ≤ length cells) × (Graded × (Within n span counts × (Listed n span counts cells × (Apart (linkedIn n span counts cells) × (Bothways (linkedIn n span counts cells) × Unit {0}))))))))
+owed few narrow graded kept apart bothways = (few, (narrow, (kept .counted, (kept .roomy, (graded, (kept .within, (kept .listed, (apart, (bothways, tt)))))))))
 
 module _ {n span : ℕ} {counts cells : List ℕ} (kept : Kept n span counts cells) (u : ℕ) (inside : u < n) where
   pub row-counts : length (rowOf span counts cells u) ≡ getD counts u 0

@@ -44,6 +44,3 @@ size-refused (Some f) n e = refl
 pub size-granted : (f : Option CallFault) (n : ℕ) → isSome f ≡ false → openedSize f n ≡ n
 size-granted None n e = refl
 size-granted (Some f) n e = absurd (true≢false e)
-
-pub refusal-at : (n span : ℕ) {counts cells grades counts′ cells′ grades′ : ℕ} → counts ≡ counts′ → cells ≡ cells′ → grades ≡ grades′ → refusalFor n span counts cells grades ≡ refusalFor n span counts′ cells′ grades′
-refusal-at n span e d h = cc

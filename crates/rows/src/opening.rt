@@ -1,7 +1,7 @@
 // Adjacency rows opened from memory, and the memory handed back.
 ghost use mathlib.Core.Path.{_≡_};
 ghost use Rattle.networks.specs.Places.{filled};
-ghost use Rattle.rows.specs.Memory.{sizesOf, refusalFor, refusalBy, fixedIn, HoldsNet};
+ghost use Rattle.rows.specs.Memory.{sizesOf, refusalBy, fixedIn, HoldsNet};
 ghost use Rattle.std.specs.Of.Vec.{vec-items};
 use crate::reading::RowsNetwork;
 use crate::rows::AdjacencyRows;
@@ -12,14 +12,15 @@ use networks::Network;
 use networks::Opening;
 use networks::places::fill_front;
 
-// Rows of more than 4,095 numbers, or more than 4,096 of them, are too large; then each memory has to suffice.
-fn refused(n: usize, span: usize, counts: usize, cells: usize, grades: usize) -> Option<CallFault>
-    ensures { λ r. ⌜ r ≡ refusalFor n span counts cells grades ⌝ }
+// Too many persons or too long rows come first, then a memory that is short.
+fn refused<G>(n: usize, memory: &RowsMemory<G>) -> Option<CallFault>
+    ensures { λ r. ⌜ r ≡ refusalBy n (sizesOf (now (memory .entry) .span) (vec-items (now (memory .entry) .counts)) (vec-items (now (memory .entry) .cells)) (vec-items (now (memory .entry) .grades))) ⌝ }
 {
+    let span = memory.span;
     if n > 4096 || span > 4095 {
         return Some(CallFault::TooLarge);
     }
-    if counts < n || cells < n * span || grades < n {
+    if memory.counts.len() < n || memory.cells.len() < n * span || memory.grades.len() < n {
         return Some(CallFault::ShortMemory);
     }
     None
@@ -46,26 +47,14 @@ pub impl<G: Grade + Drop> Opening for AdjacencyRows<G> as RowsOpening {
     ghost Holds = { λ net f m. HoldsNet net f (m .span) (vec-items (m .counts)) (vec-items (m .cells)) (vec-items (m .grades)) };
 
     fn check(n: usize, memory: &RowsMemory<G>) -> Result<(), CallFault> {
-        match refused(
-            n,
-            memory.span,
-            memory.counts.len(),
-            memory.cells.len(),
-            memory.grades.len(),
-        ) {
+        match refused(n, memory) {
             None => Ok(()),
             Some(fault) => Err(fault),
         }
     }
 
     fn open(n: usize, memory: RowsMemory<G>) -> AdjacencyRows<G> {
-        let unfit = refused(
-            n,
-            memory.span,
-            memory.counts.len(),
-            memory.cells.len(),
-            memory.grades.len(),
-        ).is_some();
+        let unfit = refused(n, &memory).is_some();
         let RowsMemory {
             span,
             mut counts,

@@ -6,7 +6,7 @@ use Rattle.faults.specs.Answers.{answered, unless}
 use Rattle.networks.specs.Changes.{withLink}
 use Rattle.networks.proofs.Refusals.{link-granted}
 use Rattle.rows.specs.Rows.{linkedIn, netIn}
-use Rattle.rows.proofs.Keeping.{kept-in, count-degree, ready-lent}
+use Rattle.rows.proofs.Keeping.{kept-in, count-degree, ready-lent, owed}
 use Rattle.rows.proofs.Linking.{joined, net-becomes, fixed-becomes}
 use Rattle.rows.proofs.Pairing.{apart-more, bothways-more}
 use Rattle.rows.proofs.changing.RowsChanging.link.Needs as need
@@ -38,31 +38,8 @@ ghost-self g c =
     let old = linkedIn (s .n) (s .span) (s .counts .items) (s .cells .items) in
     let to = joined (kept-in s) u v (c .if-u-n .left) (c .if-v-n .left) (c .if-u-v .left) (s .bothways) (c .deref-mut .ensures .value) (c .deref-mut-2 .ensures .value)
     (refilled-is (s .counts) (c .join .last .counts) (omega arith)) (refilled-is (s .cells) (c .join .last .cells) (omega arith))
-    (sym (c .linked .ensures) ∙ c .if-linked .left) (omega (arith, c .degree .ensures)) (omega (arith, c .degree-else-degree-span .ensures)) (c .join .ensures) in (
-      s .few,
-      (
-        s .narrow,
-        (
-          to .kept .counted,
-          (
-            to .kept .roomy,
-            (
-              s .graded,
-              (
-                to .kept .within,
-                (
-                  to .kept .listed,
-                  (
-                    (λ x. to .linked x x ∙ apart-more old u v (c .if-u-v .left) (s .apart) x),
-                    ((λ x y. to .linked x y ∙ bothways-more old u v (s .bothways) x y ∙ sym (to .linked y x)), tt),
-                  ),
-                ),
-              ),
-            ),
-          ),
-        ),
-      ),
-    )
+    (sym (c .linked .ensures) ∙ c .if-linked .left) (omega (arith, c .degree .ensures)) (omega (arith, c .degree-else-degree-span .ensures)) (c .join .ensures) in
+    owed (s .few) (s .narrow) (s .graded) (to .kept) (λ x. to .linked x x ∙ apart-more old u v (c .if-u-v .left) (s .apart) x) (λ x y. to .linked x y ∙ bothways-more old u v (s .bothways) x y ∙ sym (to .linked y x))
 
 pub returns : need.returns
 returns g c =

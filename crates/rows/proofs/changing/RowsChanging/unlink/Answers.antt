@@ -8,7 +8,7 @@ use Rattle.networks.specs.Changes.{withoutLink}
 use Rattle.networks.proofs.Refusals.{unlink-granted}
 use Rattle.rows.specs.Row.{has, rowOf}
 use Rattle.rows.specs.Rows.{linkedIn, netIn}
-use Rattle.rows.proofs.Keeping.{kept-in, ready-lent}
+use Rattle.rows.proofs.Keeping.{kept-in, ready-lent, owed}
 use Rattle.rows.proofs.Linking.{severed, net-becomes, fixed-becomes}
 use Rattle.rows.proofs.Pairing.{apart-less, bothways-less}
 use Rattle.rows.proofs.changing.RowsChanging.unlink.Needs as need
@@ -38,31 +38,8 @@ ghost-self g c =
     let old = linkedIn (s .n) (s .span) (s .counts .items) (s .cells .items) in
     let to = severed (kept-in s) u v (c .if-u-n .left) (c .if-v-n .left) (c .if-u-v .left) (s .bothways) (c .deref-mut .ensures .value) (c .deref-mut-2 .ensures .value)
     (refilled-is (s .counts) (c .sever .last .counts) (omega arith)) (refilled-is (s .cells) (c .sever .last .cells) (omega arith))
-    (sym (c .linked .ensures) ∙ c .if-not-linked .left) (c .sever .ensures) in (
-      s .few,
-      (
-        s .narrow,
-        (
-          to .kept .counted,
-          (
-            to .kept .roomy,
-            (
-              s .graded,
-              (
-                to .kept .within,
-                (
-                  to .kept .listed,
-                  (
-                    (λ x. to .linked x x ∙ apart-less old u v (s .apart) x),
-                    ((λ x y. to .linked x y ∙ bothways-less old u v (s .bothways) x y ∙ sym (to .linked y x)), tt),
-                  ),
-                ),
-              ),
-            ),
-          ),
-        ),
-      ),
-    )
+    (sym (c .linked .ensures) ∙ c .if-not-linked .left) (c .sever .ensures) in
+    owed (s .few) (s .narrow) (s .graded) (to .kept) (λ x. to .linked x x ∙ apart-less old u v (s .apart) x) (λ x y. to .linked x y ∙ bothways-less old u v (s .bothways) x y ∙ sym (to .linked y x))
 
 pub returns : need.returns
 returns g c =
