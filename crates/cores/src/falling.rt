@@ -14,7 +14,7 @@ ghost use Rattle.cores.specs.Lanes.{Lanes, lanes, alive, Ready, Fallen};
 use networks::Network;
 
 // x falls and stands last in the order, if there is a place.
-pub fn let_fall(x: u32, mark: u32, tail: usize, fell: &mut [u32], order: &mut [u32]) -> usize
+pub(crate) fn let_fall(x: u32, mark: u32, tail: usize, fell: &mut [u32], order: &mut [u32]) -> usize
     requires { ⌜ x < length (now fell) ⌝ }
     ensures tail { λ r. ⌜ r ≡ cond (ltb tail (length (now (order .entry)))) (tail + 1) tail ⌝ }
     ensures fell { λ _. ⌜ now (fell .exit) ≡ set (now (fell .entry)) x mark ⌝ }
@@ -29,7 +29,7 @@ pub fn let_fall(x: u32, mark: u32, tail: usize, fell: &mut [u32], order: &mut [u
 }
 
 // Lowers the degrees of the neighbours of u, who has fallen; whoever has fewer than k left falls too.
-pub fn settle<N: Network>(
+pub(crate) fn settle<N: Network>(
     net: &N,
     u: usize,
     k: u32,
@@ -64,7 +64,7 @@ pub fn settle<N: Network>(
 }
 
 // Everyone who stands with a degree below k falls.
-pub fn drop_weak<N: Network>(
+pub(crate) fn drop_weak<N: Network>(
     net: &N,
     k: u32,
     mark: u32,
@@ -91,7 +91,7 @@ pub fn drop_weak<N: Network>(
 }
 
 // All whom the falls from `head` on leave with a degree below k fall too.
-pub fn cascade<N: Network>(
+pub(crate) fn cascade<N: Network>(
     net: &N,
     k: u32,
     mark: u32,
