@@ -1,6 +1,6 @@
 -- Circles, which the literature calls k-influential communities, and their form where persons may be level. Assumes nothing.
 --     SameWeakest le S S′         one person is the weakest of both
---     Circle g le k S             S is a circle for k
+--     Circle g le k S             S is a circle for k, in an order le in which no two persons are level
 --     Group g k S                 S is non-empty, connected and tight
 --     Level le S S′               the weakest of S and the weakest of S′ are level
 --     LevelCircle g le k S        S is a circle for k, where persons may be level
