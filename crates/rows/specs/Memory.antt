@@ -1,6 +1,7 @@
 -- The memory of adjacency rows: what it needs, what an opening fixes in it, and what it holds at the end. Assumes nothing.
 --     sizesOf span counts cells grades      what the opening check goes by
---     refusalBy n sizes           6 for too many persons or too long rows, else 7 for a memory that is short
+--     refusalFor n span counts cells grades     6 for too many persons or too long rows, else 7 for a memory that is short
+--     refusalBy n sizes           the same, by the sizes as a list
 --     fixedIn n span counts cells grades    the sizes, the span as the ceiling, and what lies behind
 --     Begins xs cells             cells begins with xs, and is free behind it
 --     HoldsNet net f span counts cells grades     the memory holds just this network
