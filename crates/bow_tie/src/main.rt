@@ -1,4 +1,4 @@
-// Opens the bow tie network, links it, tries refused changes, and shows who is linked to whom.
+// Opens the bow tie network, links it, tries refused changes, and shows who is linked to whom, with core numbers.
 use faults::CallFault;
 use grades::Points;
 use grades::PointsGrade;
@@ -35,6 +35,16 @@ fn show(rt: &impl Print, net: &impl Network<Grade = Points>) -> Result<(), AnyEr
             }
             println!(rt, "")?;
         }
+    }
+    Ok(())
+}
+
+fn show_cores(rt: &impl Print, net: &impl Network<Grade = Points>) -> Result<(), AnyError> {
+    let mut row = [0; 5];
+    print!(rt, "core numbers")?;
+    tell(rt, cores::cores(net, &mut [0; 40], &mut row))?;
+    for (u, core) in row.iter().enumerate() {
+        println!(rt, "person {u}: {core}")?;
     }
     Ok(())
 }
@@ -131,9 +141,11 @@ fn run(rt: &LibcRuntime) -> Result<(), AnyError> {
     let mut net = BitMatrix::open(5, memory);
     tie(rt, &mut net)?;
     show(rt, &net)?;
+    show_cores(rt, &net)?;
     refuse(rt, &mut net)?;
     unlink(rt, &mut net, 3, 4)?;
     show(rt, &net)?;
+    show_cores(rt, &net)?;
     fill_rows(rt)
 }
 
