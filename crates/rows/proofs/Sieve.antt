@@ -5,13 +5,14 @@ use mathlib.Core.List.{List, [], _∷_, _++_}
 use mathlib.Core.Logic.{inl, inr}
 use Prim.Native.Nat.{ℕ, zero, suc, _+_, _-_, _<_, _≤_}
 use native.Mathlib.Omega.{arith}
-use native.Mathlib.Nat.{zero-add, add-zero}
+use native.Mathlib.Nat.{zero-add}
 use lib.Dec.{eqb, ltb}
 use Rattle.std.specs.Iters.{counting}
 use Rattle.std.specs.shelf.Lists.{All, kept-by}
 use Rattle.std.proofs.shelf.Counted.{length-counting, getD-counting}
 use Rattle.std.proofs.shelf.Elements.{all-getD, all-kept-by, all-weaker}
 use Rattle.std.proofs.shelf.Tests.{cases-lt, lt-ltb, le-ltb, eqb-true, and-right}
+use Rattle.networks.proofs.Rising.{counting-append}
 use Rattle.rows.specs.Row.{has, Rising}
 use Rattle.rows.proofs.Standing.{has-at, has-none}
 
@@ -22,13 +23,6 @@ all-between a (suc m) = (
   (omega arith, omega arith),
   all-weaker (λ x. (a + 1 ≤ x) × (x < a + 1 + m)) (λ x. (a ≤ x) × (x < a + suc m)) (λ x h. (omega (arith, h .0), omega (arith, h .1))) (counting (a + 1) m) (all-between (a + 1) m),
 )
-
-counting-append : (a k m : ℕ) → counting a (k + m) ≡ counting a k ++ counting (a + k) m
-counting-append a zero m = ap₂ counting (sym (add-zero a)) (zero-add m)
-counting-append a (suc k) m =
-    let e : suc k + m ≡ suc (k + m) = omega arith in
-    let f : a + 1 + k ≡ a + suc k = omega arith in
-    ap (counting a) e ∙ ap (λ t. a ∷ t) (counting-append (a + 1) k m ∙ ap (λ b. counting (a + 1) k ++ counting b m) f)
 
 pub counting-around : (n v : ℕ) → v < n → counting 0 n ≡ counting 0 v ++ v ∷ counting (v + 1) (n - (v + 1))
 counting-around n v h =
