@@ -21,7 +21,7 @@ use Rattle.frames.specs.declared.frame.Frame.{Frame}
 use Rattle.frames.specs.Exact.{Exact, refusalIn}
 use Rattle.frames.specs.Frames.{kindIn, total, framed, checkOf, frameFault}
 use Rattle.frames.specs.Lines.{lineOf, bytesIn, lineFault, granted, unless, held, frameOf, frameAfter}
-use Rattle.frames.specs.Refusals.{first, answered}
+use Rattle.frames.specs.Reading.{firstOf, answered}
 use Rattle.frames.proofs.Checks.{framed-sum, framed-bytes, length-framed, unframed, frame-means, frame-granted}
 use Rattle.frames.proofs.Letters.{Spelt, spelt-line, bytes-back, line-granted}
 
@@ -34,17 +34,17 @@ granted-by None p = refl
 granted-by (Some f) p = let z : _≡_ {A = ℕ} 0 1 = cc in absurd (omega arith)
 
 -- a refused line is told as such
-pub read-refused : {X : Type 0} (cs : List ℕ) (p : Option FrameFault) (m : Option X) (e : LineFault) (r : Result X FrameFault) → r ≡ Err (Line e) → Err e ≡ granted (lineFault cs) → r ≡ answered (first (lineFault cs) p) m
-read-refused cs p m e r a b = a ∙ sym (ap (λ o. answered (first o p) m) (refused-by (lineFault cs) e b))
+pub read-refused : {X : Type 0} (cs : List ℕ) (p : Option FrameFault) (m : Option X) (e : LineFault) (r : Result X FrameFault) → r ≡ Err (Line e) → Err e ≡ granted (lineFault cs) → r ≡ answered (firstOf (lineFault cs) p) m
+read-refused cs p m e r a b = a ∙ sym (ap (λ o. answered (firstOf o p) m) (refused-by (lineFault cs) e b))
 
 -- the frame that was filled holds the bytes of the line
 pub read-passed : {X : Type 0} (fault : List ℕ → Option FrameFault) (meaning : List ℕ → Option X) (f g : Frame) (cs : List ℕ) (r : Result X FrameFault) → Ok tt ≡ granted (lineFault cs) → g ≡ frameAfter f cs
-    → r ≡ answered (fault (held g)) (meaning (held g)) → r ≡ answered (first (lineFault cs) (fault (bytesIn cs))) (meaning (bytesIn cs))
+    → r ≡ answered (fault (held g)) (meaning (held g)) → r ≡ answered (firstOf (lineFault cs) (fault (bytesIn cs))) (meaning (bytesIn cs))
 read-passed fault meaning f g cs r a b e =
     let none = granted-by (lineFault cs) a in
     let bs = bytesIn cs in
     let same : held g ≡ bs = ap held (b ∙ ap (λ o. unless o (frameOf bs) f) none) ∙ take-at bs (replicate (32 - length bs) 0) (length bs) refl in
-    e ∙ ap (λ x. answered (fault x) (meaning x)) same ∙ sym (ap (λ o. answered (first o (fault bs)) (meaning bs)) none)
+    e ∙ ap (λ x. answered (fault x) (meaning x)) same ∙ sym (ap (λ o. answered (firstOf o (fault bs)) (meaning bs)) none)
 
 pub record Faithful {X : Type 0} (known : ℕ → Bool) (long : ℕ → ℕ) (meaning : List ℕ → Option X) (fields : X → List ℕ) (In : X → Type 0) : Type 0 where
   pub bytes : (q : X) → In q → All Byte (fields q)
@@ -59,13 +59,13 @@ answer-ok (Some e) m q p = let z : _≡_ {A = ℕ} 0 1 = cc in absurd (omega ari
 answer-ok None None q p = let z : _≡_ {A = ℕ} 0 1 = cc in absurd (omega arith)
 answer-ok None (Some x) q p = (refl, cc)
 
-first-none : (o : Option LineFault) (p : Option FrameFault) → first o p ≡ None → (o ≡ None) × (p ≡ None)
+first-none : (o : Option LineFault) (p : Option FrameFault) → firstOf o p ≡ None → (o ≡ None) × (p ≡ None)
 first-none None p e = (refl, e)
 first-none (Some x) p e = let z : _≡_ {A = ℕ} 0 1 = cc in absurd (omega arith)
 
 module _ {X : Type 0} (known : ℕ → Bool) (long : ℕ → ℕ) (meaning : List ℕ → Option X) where
   abbrev pub reading : List ℕ → Result X FrameFault
-  reading cs = answered (first (lineFault cs) (frameFault (known (kindIn (bytesIn cs))) (long (kindIn (bytesIn cs))) (bytesIn cs))) (meaning (bytesIn cs))
+  reading cs = answered (firstOf (lineFault cs) (frameFault (known (kindIn (bytesIn cs))) (long (kindIn (bytesIn cs))) (bytesIn cs))) (meaning (bytesIn cs))
 
   module _ (fields : X → List ℕ) (In : X → Type 0) (faithful : Faithful known long meaning fields In) where
     read-only : (cs : List ℕ) (q : X) → reading cs ≡ Ok q → In q × (cs ≡ lineOf (framed (fields q)))
@@ -88,7 +88,7 @@ module _ {X : Type 0} (known : ℕ → Bool) (long : ℕ → ℕ) (meaning : Lis
         let same : bytesIn (lineOf bs) ≡ bs = bytes-back bs (framed-bytes (fields q) (faithful .bytes q h)) in
         let kind : kindIn bs ≡ kindIn (fields q) = getD-append-left (fields q) (checkOf (fields q) ∷ []) 0 0 some in
         let frame = frame-granted (known (kindIn bs)) (long (kindIn bs)) bs (ap known kind ∙ faithful .kind q) (n ∙ faithful .size q ∙ ap long (sym kind)) (framed-sum (fields q)) in
-        ap (λ o. answered (first o (frameFault (known (kindIn (bytesIn (lineOf bs)))) (long (kindIn (bytesIn (lineOf bs)))) (bytesIn (lineOf bs)))) (meaning (bytesIn (lineOf bs)))) (line-granted bs (omega arith) (omega arith))
+        ap (λ o. answered (firstOf o (frameFault (known (kindIn (bytesIn (lineOf bs)))) (long (kindIn (bytesIn (lineOf bs)))) (bytesIn (lineOf bs)))) (meaning (bytesIn (lineOf bs)))) (line-granted bs (omega arith) (omega arith))
         ∙ ap (λ x. answered (frameFault (known (kindIn x)) (long (kindIn x)) x) (meaning x)) same
         ∙ ap (λ o. answered o (meaning bs)) frame ∙ ap (λ m. answered None m) (faithful .back q h)
 
@@ -97,9 +97,9 @@ module _ {X : Type 0} (known : ℕ → Bool) (long : ℕ → ℕ) (meaning : Lis
 
   -- where the frame's refusals leave nothing unread, the answer tells the first of them all
   pub refusal-of : ((bs : List ℕ) → known (kindIn bs) ≡ true → length bs ≡ long (kindIn bs) → isSome (meaning bs) ≡ true) → (cs : List ℕ)
-      → refusalIn (reading cs) ≡ first (lineFault cs) (frameFault (known (kindIn (bytesIn cs))) (long (kindIn (bytesIn cs))) (bytesIn cs))
+      → refusalIn (reading cs) ≡ firstOf (lineFault cs) (frameFault (known (kindIn (bytesIn cs))) (long (kindIn (bytesIn cs))) (bytesIn cs))
   refusal-of meant cs =
-      tells (first (lineFault cs) _) (meaning (bytesIn cs)) (λ e. (let (k, l, t) = frame-means _ _ (bytesIn cs) (first-none (lineFault cs) _ e .1) in meant (bytesIn cs) k l))
+      tells (firstOf (lineFault cs) _) (meaning (bytesIn cs)) (λ e. (let (k, l, t) = frame-means _ _ (bytesIn cs) (first-none (lineFault cs) _ e .1) in meant (bytesIn cs) k l))
     where
       tells : (o : Option FrameFault) (m : Option X) → (o ≡ None → isSome m ≡ true) → refusalIn (answered o m) ≡ o
       tells (Some e) m f = refl

@@ -4,7 +4,7 @@
 --     layerOf b                   the layer of that number
 --     replyOf bs                  the reply whose kind and fields stand in the bytes
 --     refusalOf f line            the reply that tells the refusal f of that line
---     ReplyFits p                      the fields are in the range of their types
+--     ReplyFits p                 the fields are in the range of their types
 use mathlib.Core.List.{List, [], _∷_, _++_}
 use mathlib.Core.Bool.{cond}
 use Prim.Native.Nat.{ℕ, _<_}

@@ -2,7 +2,7 @@
 --     requestKind q               the kind of the request
 --     requestBytes put q          its kind and fields, where put g are the bytes of the grade g
 --     requestOf get size bs       the request whose kind and fields stand in the bytes, where get gives the grade of size bytes
---     RequestFits In q                  the fields are in the range of their types, a grade where it meets In
+--     RequestFits In q            the fields are in the range of their types, a grade where it meets In
 use mathlib.Core.List.{List, [], _∷_, _++_}
 use mathlib.Core.Bool.{cond}
 use Prim.Native.Nat.{ℕ, _<_}

@@ -12,6 +12,11 @@ pub struct Frame {
     pub len: usize,
 }
 
+pub(crate) const BLANK: Frame = Frame {
+    bytes: [0; 32],
+    len: 0,
+};
+
 pub(crate) fn contents(frame: &Frame) -> &[u8]
     ensures { λ r. ⌜ now r ≡ held (now (frame .entry)) ⌝ }
 {

@@ -8,6 +8,7 @@ pub mod line;
 pub mod reader;
 pub mod reply;
 pub mod request;
+mod rows;
 #[cfg(test)]
 mod tests;
 pub mod writer;

@@ -6,12 +6,12 @@ ghost use Rattle.frames.specs.Frames.{kindIn};
 ghost use Rattle.frames.specs.Kinds.{lengthOf};
 ghost use Rattle.frames.specs.Requests.{requestOf, RequestFits};
 ghost use Rattle.frames.specs.Replies.{layerOf, replyOf, ReplyFits};
-ghost use Rattle.frames.specs.Refusals.{requestFault, replyFault, answered};
+ghost use Rattle.frames.specs.Reading.{requestFault, replyFault, answered, readRequest, requestRefusal, readReply};
 ghost use Rattle.frames.specs.Exact.{Exact, refusalIn, requestLine, replyLine};
-ghost use Rattle.frames.specs.Reading.{readRequest, requestRefusal, readReply};
 use crate::fault::FrameFault;
 use crate::fault::FrameFromLine;
 use crate::fault::Layer;
+use crate::frame::BLANK;
 use crate::frame::Frame;
 use crate::frame::byte_at;
 use crate::frame::check;
@@ -34,10 +34,7 @@ pub fn read_request<G: Wire>(line: &[u8]) -> Result<Request<G>, FrameFault>
     ensures refusal { λ r. ⌜ refusalIn r ≡ requestRefusal (G·Wire .size) (now (line .entry)) ⌝ }
     ensures exact { λ r. ⌜ Exact (RequestFits (G·Wire .InRange)) (requestLine (G·Wire .bytesOf)) (now (line .entry)) r ⌝ }
 {
-    let mut frame = Frame {
-        bytes: [0; 32],
-        len: 0,
-    };
+    let mut frame = BLANK;
     read_line(line, &mut frame)?;
     request_in(frame)
 }
@@ -58,42 +55,22 @@ fn request_of<G: Wire>(bytes: &[u8]) -> Option<Request<G>>
     requires { ⌜ length (now bytes) ≡ lengthOf (G·Wire .size) (kindIn (now bytes)) ⌝ }
     ensures { λ r. ⌜ r ≡ requestOf (G·Wire .gradeOf) (G·Wire .size) (now (bytes .entry)) ⌝ }
 {
-    let first = word_at(bytes, 1);
-    let second = word_at(bytes, 3);
+    let u = word_at(bytes, 1);
+    let v = word_at(bytes, 3);
     let choice = byte_at(bytes, 5);
     match byte_at(bytes, 0) {
-        request::OPEN => Some(Request::Open { n: first }),
+        request::OPEN => Some(Request::Open { n: u }),
         request::REGRADE => match G::read(&bytes[3..3 + G::width()]) {
-            Some(grade) => Some(Request::Regrade {
-                person: first,
-                grade,
-            }),
+            Some(grade) => Some(Request::Regrade { person: u, grade }),
             None => None,
         },
-        request::LINK => Some(Request::Link {
-            u: first,
-            v: second,
-        }),
-        request::UNLINK => Some(Request::Unlink {
-            u: first,
-            v: second,
-        }),
-        request::PEEL => Some(Request::Peel {
-            k: first,
-            r: second,
-            choice,
-        }),
+        request::LINK => Some(Request::Link { u, v }),
+        request::UNLINK => Some(Request::Unlink { u, v }),
+        request::PEEL => Some(Request::Peel { k: u, r: v, choice }),
         request::PLANT => Some(Request::Plant),
-        request::PICK => Some(Request::Pick {
-            k: first,
-            r: second,
-            choice,
-        }),
+        request::PICK => Some(Request::Pick { k: u, r: v, choice }),
         request::CORES => Some(Request::Cores),
-        request::HOLDER => Some(Request::Holder {
-            k: first,
-            person: second,
-        }),
+        request::HOLDER => Some(Request::Holder { k: u, person: v }),
         _ => None,
     }
 }
@@ -102,10 +79,7 @@ pub fn read_reply(line: &[u8]) -> Result<Reply, FrameFault>
     ensures answer { λ r. ⌜ r ≡ readReply (now (line .entry)) ⌝ }
     ensures exact { λ r. ⌜ Exact ReplyFits replyLine (now (line .entry)) r ⌝ }
 {
-    let mut frame = Frame {
-        bytes: [0; 32],
-        len: 0,
-    };
+    let mut frame = BLANK;
     read_line(line, &mut frame)?;
     reply_in(frame)
 }

@@ -1,9 +1,9 @@
 // Example lines run, and lines that are refused.
-use crate::Frame;
 use crate::characters;
 use crate::examples::EXAMPLES;
 use crate::examples::Example;
 use crate::fault::number_of;
+use crate::frame::BLANK;
 use crate::line::read_line;
 use crate::line::write_line;
 use crate::read_request;
@@ -18,10 +18,7 @@ use std::test::*;
 
 fn runs(row: &Example) -> bool {
     let line = &row.line[0..2 * row.len.min(8)];
-    let mut frame = Frame {
-        bytes: [0; 32],
-        len: 0,
-    };
+    let mut frame = BLANK;
     if read_line(line, &mut frame).is_err() {
         return false;
     }

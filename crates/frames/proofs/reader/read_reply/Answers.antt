@@ -4,7 +4,7 @@ use Rattle.std.proofs.shelf.Results.{err-from-errBy}
 use Rattle.frames.specs.Exact.{Exact, replyLine}
 use Rattle.frames.specs.Kinds.{isReply, tableLength}
 use Rattle.frames.specs.Lines.{bytesIn}
-use Rattle.frames.specs.Refusals.{replyFault}
+use Rattle.frames.specs.Reading.{replyFault}
 use Rattle.frames.specs.Replies.{replyBytes, replyOf, ReplyFits}
 use Rattle.frames.proofs.Faithful.{read-refused, read-passed, exact-of}
 use Rattle.frames.proofs.ReplyBytes.{replies-faithful}

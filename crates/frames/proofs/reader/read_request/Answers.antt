@@ -2,7 +2,7 @@ use mathlib.Core.Path.{ap, _∙_}
 use Rattle.std.specs.declared.result.Result.the-variants.{Err}
 use Rattle.std.proofs.shelf.Results.{err-from-errBy}
 use Rattle.frames.specs.Lines.{bytesIn}
-use Rattle.frames.specs.Refusals.{requestFault}
+use Rattle.frames.specs.Reading.{requestFault}
 use Rattle.frames.specs.Requests.{requestOf}
 use Rattle.frames.proofs.Faithful.{read-refused, read-passed}
 use Rattle.frames.proofs.RequestBytes.{Encoded, told}

@@ -2,7 +2,7 @@ use Prim.Native.Nat.{_≤_}
 use native.Mathlib.Omega.{arith}
 use lib.ListN.{length}
 use Rattle.frames.proofs.Sealing.{grade-written}
-use Rattle.frames.proofs.writer.regrade.Needs as need
+use Rattle.frames.proofs.rows.regrade.Needs as need
 
 pub returns : need.returns
 returns g c =

@@ -4,7 +4,7 @@ use native.Mathlib.Omega.{arith}
 use lib.ListN.{take}
 use Rattle.frames.specs.Frames.{checkOf}
 use Rattle.frames.proofs.Sealing.{sealed}
-use Rattle.frames.proofs.writer.seal.Needs as need
+use Rattle.frames.proofs.rows.seal.Needs as need
 
 pub returns : need.returns
 returns c =
