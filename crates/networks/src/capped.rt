@@ -61,7 +61,7 @@ impl<N: Network> Capped<N> {
     fn caps(&self, u: usize, v: usize) -> bool
         ensures { λ r. ⌜ r ≡ capsLink (now (self .entry) .limit) (N·Network .meaning (now (self .entry) .below)) u v ⌝ }
     {
-        let n = self.below.persons();
+        let n = self.persons();
         if u >= n || v >= n || u == v || self.below.linked(u, v) {
             return false;
         }
