@@ -1,4 +1,6 @@
 // Opens the bow tie network, links it, tries refused changes, and shows who is linked to whom, with core numbers.
+#![tactic(auto)]
+
 use faults::CallFault;
 use grades::Points;
 use matrix::{BitMatrix, MatrixMemory};

@@ -1,4 +1,6 @@
 // The refusals of the calls, one enum for every layer that answers them.
+#![tactic(auto)]
+
 ghost use Rattle.std.specs.Prelude.{◌≡◌};
 ghost use Rattle.faults.specs.Answers.{code_of};
 ghost use Rattle.faults.specs.Numbers.{number_of};

@@ -1,4 +1,6 @@
 // Rounds, holders and the tree of a network: the theorems that planting and picking rest on.
+#![tactic(auto)]
+
 pub mod examples;
 pub mod holder_laws;
 pub mod joining_laws;

@@ -1,4 +1,6 @@
 // Lines of hexadecimal digits, the frames that they stand for, and the requests and replies in frames.
+#![tactic(auto)]
+
 mod digits;
 pub mod examples;
 pub mod fault;

@@ -1,4 +1,6 @@
 // Grades of persons: what an order of grades owes, two kinds of grade, and a grade with its person.
+#![tactic(auto)]
+
 pub mod grade;
 pub mod laurels;
 pub mod places;

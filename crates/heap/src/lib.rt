@@ -1,4 +1,6 @@
 // A min-heap over a lent slice, for every element kind with a total order.
+#![tactic(auto)]
+
 pub mod calls;
 pub mod ordered;
 mod sift;

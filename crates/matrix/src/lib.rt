@@ -1,4 +1,6 @@
 // The bit matrix: a network with one bit for each ordered pair of persons.
+#![tactic(auto)]
+
 mod bits;
 pub mod changing;
 pub mod matrix;

@@ -1,4 +1,6 @@
 // What a network means to the theory of circles: every kind of network and grade gives a lawful graph and a strict order.
+#![tactic(auto)]
+
 ghost use Rattle.meaning.specs.Persons.{graph_of, order_of};
 ghost use Rattle.theory.specs.Graphs.{Lawful};
 ghost use Rattle.theory.specs.Orders.{StrictOrder};

@@ -1,4 +1,6 @@
 // Credit networks: what they mean, the questions they answer, their changes and openings, and a degree cap over any of them.
+#![tactic(auto)]
+
 pub mod capped;
 pub mod changing;
 pub mod network;

@@ -1,4 +1,6 @@
 // Queries for circles, and the form in which circles are listed.
+#![tactic(auto)]
+
 mod asking;
 pub mod head;
 pub mod query;

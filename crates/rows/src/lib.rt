@@ -1,4 +1,6 @@
 // Adjacency rows: a network whose persons each have a row of numbers, free behind its count.
+#![tactic(auto)]
+
 mod cells;
 pub mod changing;
 pub mod opening;

@@ -1,4 +1,6 @@
 // The theory of circles: what they are, and the theorems that a finder of them rests on.
+#![tactic(auto)]
+
 pub mod circle_laws;
 pub mod core_laws;
 pub mod examples;
