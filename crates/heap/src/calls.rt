@@ -11,7 +11,7 @@ use faults::CallFault;
 // The count of a heap in which nothing waits.
 pub fn empty<T: Ordered>(places: &[T]) -> usize
     ensures count { result ≡ 0 }
-    ensures stands { Holds at_most [] places.now result }
+    ensures stands { Holds T.at_most [] places.now result }
 {
     0
 }
@@ -21,7 +21,7 @@ pub fn put<T: Ordered + Copy>(places: &mut [T], waiting: usize, x: T) -> Result<
     ensures cases { result ≡ put_answer (length places.old) waiting }
     ensures kept { OnErr result (places.new ≡ places.old) }
     ensures behind { drop (waiting + 1) places.new ≡ drop (waiting + 1) places.old }
-    ensures stands { IfOk result (λ n. (bag : List T) → Holds at_most bag places.old waiting → Holds at_most (x ∷ bag) places.new n) }
+    ensures stands { IfOk result (λ n. (bag : List T) → Holds T.at_most bag places.old waiting → Holds T.at_most (x ∷ bag) places.new n) }
 {
     if waiting >= places.len() {
         return Err(CallFault::NoRoom);
@@ -41,7 +41,7 @@ fn first<T: Copy>(row: &[T]) -> T
 // The least of those that wait.
 pub fn least<T: Ordered + Copy>(places: &[T], waiting: usize) -> Option<T>
     ensures cases { is_some result ≡ waits places.now waiting }
-    ensures stands { IfSome result (λ x. (bag : List T) → Holds at_most bag places.now waiting → Least at_most bag x) }
+    ensures stands { IfSome result (λ x. (bag : List T) → Holds T.at_most bag places.now waiting → Least T.at_most bag x) }
 {
     if waiting == 0 || places.len() == 0 {
         return None;
@@ -53,7 +53,7 @@ pub fn least<T: Ordered + Copy>(places: &[T], waiting: usize) -> Option<T>
 fn take_first<T: Ordered + Copy>(row: &mut [T]) -> T
     requires { 0 < length row.old }
     ensures same { IsPermutation row.old (result ∷ front (length row.old - 1) row.new) }
-    ensures ordered { Heap at_most row.old → AtMostAll at_most result row.old × Heap at_most (front (length row.old - 1) row.new) }
+    ensures ordered { Heap T.at_most row.old → AtMostAll T.at_most result row.old × Heap T.at_most (front (length row.old - 1) row.new) }
 {
     let x = first(row);
     let last = row.len() - 1;
@@ -69,7 +69,7 @@ pub fn take<T: Ordered + Copy>(places: &mut [T], waiting: usize) -> Option<T>
     ensures cases { is_some result ≡ waits places.old waiting }
     ensures kept { IfNone result (places.new ≡ places.old) }
     ensures behind { drop waiting places.new ≡ drop waiting places.old }
-    ensures stands { IfSome result (λ x. (bag : List T) → Holds at_most bag places.old waiting → Taken at_most bag x places.new (waiting - 1)) }
+    ensures stands { IfSome result (λ x. (bag : List T) → Holds T.at_most bag places.old waiting → Taken T.at_most bag x places.new (waiting - 1)) }
 {
     let n = waiting.min(places.len());
     if n == 0 {

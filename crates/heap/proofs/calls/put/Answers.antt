@@ -10,5 +10,5 @@ returns g c =
       cases = search rules;
       kept = tt;
       behind = search (rules, overwrites);
-      stands = holds_put g.T.Ordered.at_most c.args.places.now c.sift-up.new.row c.args.waiting c.args.x room c.sift-up.ensures.same c.sift-up.ensures.heap;
+      stands = holds_put g.T.Ordered.at_most c.args.places.now c.sift_up.new.row c.args.waiting c.args.x room c.sift_up.ensures.same c.sift_up.ensures.heap;
     }

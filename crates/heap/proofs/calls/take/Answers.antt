@@ -10,5 +10,5 @@ returns g c =
       cases = search rules;
       kept = tt;
       behind = search (rules, overwrites);
-      stands = holds_take g.T.Ordered.at_most c.args.places.now c.take-first.new.row c.args.waiting c.min-n.result c.take-first.result c.min-n.ensures pos c.take-first.auto.row c.take-first.ensures.same c.take-first.ensures.ordered;
+      stands = holds_take g.T.Ordered.at_most c.args.places.now c.take_first.new.row c.args.waiting c.min-n.result c.take_first.result c.min-n.ensures pos c.take_first.auto.row c.take_first.ensures.same c.take_first.ensures.ordered;
     }
