@@ -3,10 +3,10 @@ use Rattle.grades.proofs.Fronts.{onto_more, onto_all}
 use Rattle.networks.specs.Net.{neighbours}
 use Rattle.networks.proofs.Rising.{kept_below, nth_some, nth_none}
 use Rattle.networks.proofs.network.Network.copy_neighbours.Goals as goal
-use Rattle.networks.proofs.network.Network.copy_neighbours.Goals.{in-Some, in-default}
+use Rattle.networks.proofs.network.Network.copy_neighbours.Goals.{in-Some, in_default}
 
-pub overflow-cast-places : goal.overflow-cast-places
-overflow-cast-places g c =
+pub overflow_cast-places : goal.overflow_cast-places
+overflow_cast-places g c =
     let net = g.Self.Network.meaning c.args.self.now in
     let near = neighbours net c.args.u in
     let short : c.loop-i.i < length near = omega arith in
@@ -25,7 +25,7 @@ loop-i-preserved g c =
       | in-Some w ↦ w.places-is ∙ ap (λ t. set t i w.in-Some.v) c.loop-i.invariant
           ∙ onto_more near c.args.places.now i w.in-Some.v short room
           (nth_some near i w.in-Some.v c.neighbour.result c.neighbour.ensures w.in-Some.is short)
-      | in-default w ↦ absurd (nth_none near i c.neighbour.result c.neighbour.ensures w.in-default.is short 0)
+      | in_default w ↦ absurd (nth_none near i c.neighbour.result c.neighbour.ensures w.in_default.is short 0)
     ]
 
 pub returns : goal.returns
