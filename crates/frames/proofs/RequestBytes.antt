@@ -1,8 +1,8 @@
 -- Requests are read from the bytes that they are written as, and from no others. Assumes nothing.
-use Rattle.std.proofs.Common.{◌≡◌, ℕ, suc, ◌+◌, ◌-◌, ◌<◌, ◌≤◌, true, ◌⊎◌, List, [], ◌∷◌, ◌++◌, length, get_or, take, drop, is_some, Some, None, Option, Result, sym, refl, ap, ◌∙◌, subst, inl, inr, arith}
+use Rattle.std.proofs.Common.{◌≡◌, ℕ, ◌+◌, ◌-◌, ◌<◌, ◌≤◌, true, List, [], ◌∷◌, ◌++◌, length, take, drop, is_some, Some, None, Option, Result, sym, refl, ap, ◌∙◌, subst, inl, inr, arith}
 use Rattle.std.specs.List.{AllByRecursion as All}
 use Rattle.std.proofs.ByRecursion.{All-append, All-take, All-drop}
-use Rattle.std.proofs.lemmas.List.{length-drop, length-take-le, drop-take, take_at, take-append-drop}
+use Rattle.std.proofs.lemmas.List.{length-drop, length-take-le, take_at}
 use Rattle.std.proofs.lemmas.Bool.Decides.{nat_tests}
 use Rattle.grades.specs.Places.{Byte}
 use Rattle.frames.specs.declared.fault.FrameFault.{FrameFault}
@@ -12,7 +12,7 @@ use Rattle.frames.specs.Exact.{Exact, refusal_in, request_line}
 use Rattle.frames.specs.Frames.{kind_in, bytes16, word_at, framed, check_of}
 use Rattle.frames.specs.Kinds.{is_request, length_of}
 use Rattle.frames.specs.Reading.{read_request, request_refusal}
-use Rattle.frames.specs.Requests.{request_bytes, request_as, request_of, regraded, RequestFits}
+use Rattle.frames.specs.Requests.{request_bytes, request_of, regraded, RequestFits}
 use Rattle.frames.proofs.Faithful.{Faithful, exact_of, refusal_of_lem}
 use Rattle.frames.proofs.Fields.{byte_at, word_back, word_bytes, word_at_lem, landed, no_field, one_word, two_words, two_words_byte, one_word_rest, either_kind, some_kind}
 
