@@ -9,7 +9,7 @@
 --     LevelLists g le weaker k r choice ws   ws are the names of the listing, where persons may be level
 --     names g le weaker k r choice      the names of the listing, as a function
 --     listing g le k r choice     the listing, as a function
-use Rattle.std.specs.Prelude.{◌≡◌, ℕ, zero, suc, ◌-◌, ◌≤◌, Bool, true, false, cond, not, ◌&&◌, ◌⊎◌, List, [], ◌∷◌, map, length, drop, filter, ◌==◌}
+use Rattle.std.specs.Prelude.{◌≡◌, ℕ, zero, suc, ◌-◌, ◌≤◌, Bool, true, cond, not, ◌&&◌, ◌⊎◌, List, [], ◌∷◌, map, length, drop, filter, ◌==◌}
 use Rattle.std.specs.List.{AllByRecursion as All}
 use Rattle.theory.specs.Sets.{Set, Relation, ◌∈◌, any, ◌among◌, Pairwise, members, ListOf}
 use Rattle.theory.specs.Graphs.{Graph}

@@ -4,7 +4,7 @@
 --     Dropped-are-own             who is dropped in a round is in its circle and in no circle that it holds
 --     Innermost-drops-all         a circle is innermost exactly when its round drops the whole of it
 --     Innermost-is-tested         where persons may be level: innermost exactly when nobody is left once the weakest and all level with it are out
-use Rattle.std.specs.Prelude.{◌≡◌, ℕ, true, not, ◌&&◌, List}
+use Rattle.std.specs.Prelude.{◌≡◌, ℕ, not, ◌&&◌}
 use Rattle.std.specs.List.{AllByRecursion as All}
 use Rattle.theory.specs.Sets.{Set, Relation, ◌∈◌, ◌⊆◌, without, minus, both_of, ◌among◌, Pairwise}
 use Rattle.theory.specs.Graphs.{Graph, Lawful, Inside, Tight}

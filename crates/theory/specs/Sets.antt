@@ -10,7 +10,7 @@
 --     times n f x                 f, n times, from x on
 --     below n p                   the members of p below n
 --     x among xs                  x stands in the list
---     any_of p xs, has v vs        does some element pass; does v stand in the list
+--     any_of p xs, has v vs       does some element pass; does v stand in the list
 --     Pairwise R xs               each element stands in R to all behind it
 --     members p n                 the numbers below n that pass, rising
 --     ListOf P vs                 vs is the list of those with the property P, rising
