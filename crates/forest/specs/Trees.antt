@@ -4,9 +4,9 @@
 --     Before le x y               x comes first: of a smaller k, or of the same k and weaker
 --     TreeOf g le vs              vs has one vertex for each circle for each k from 1 on, in that order
 --     named f h                   f of the number, if there is one
---     vertex_at g le k i           the vertex of round i
---     tree_for g le k              the vertices for k
---     trees_from g le k n          the vertices for n numbers, from k on
+--     vertex_at g le k i          the vertex of round i
+--     tree_for g le k             the vertices for k
+--     trees_from g le k n         the vertices for n numbers, from k on
 --     largest f n                 the largest of f below n
 --     tree g le                   the tree, as a function
 --     entries vs                  how many persons stand in the vertices
