@@ -1,12 +1,14 @@
 -- Unordered pairs, and the links of a network that they stand for. Assumes nothing.
 use Rattle.std.proofs.Common.{◌≡◌, ℕ, ◌<◌, min, max, Bool, true, false, cond, not, ◌&&◌, ◌||◌, eqb, ltb, ◌⊎◌, Some, None, Option, sym, refl, ap, ◌∙◌, inl, inr, arith}
 use mathlib.Core.Path.{fun_ext}
-use Rattle.std.proofs.lemmas.Bool.{cases_lt, lt-ltb, ge-ltb}
+use Rattle.std.proofs.lemmas.Bool.{cases_lt, lt-ltb, le-ltb}
 use Rattle.std.proofs.lemmas.Bool.Decides.{nat_tests}
+use borrow.Author.Tests.{eq-eqb}
 use Rattle.networks.specs.Net.{Net, Sound}
 use Rattle.networks.specs.Changes.{is_pair, with_link, without_link, with_grade, link_fault, unlink_fault, regrade_fault, after_link, after_unlink, after_regrade}
 use Rattle.faults.specs.Answers.{unless}
 use Rattle.faults.specs.declared.call_fault.CallFault.{CallFault}
+use Rattle.faults.specs.declared.call_fault.CallFault.TheVariants.{NoSuchPerson, SamePerson}
 use Rattle.histories.specs.declared.edit.Edit.TheVariants.{Link, Unlink, Regrade}
 use Rattle.histories.specs.Edits.{after_edit}
 use Rattle.histories.specs.Pairs.{Drawn, net_of, drawn_from, is_the_pair, changed, refused_there, pair_edits}
@@ -24,7 +26,7 @@ module _ {G : Type 0} (net : Net G) (sound : Sound net) where
     | inl h ↦ asked u v u v (omega arith) (omega arith) h
     | inr (inl h) ↦ asked v u u v (omega arith) (omega arith) h ∙ sound.bothways v u
     | inr (inr h) ↦ (let same : min u v ≡ max u v = omega arith in
-        ap (λ x. x && net.linked (min u v) (max u v)) (ge-ltb (min u v) (max u v) (omega arith)) ∙ sym (ap (net.linked u) (sym h) ∙ sound.apart u))
+        ap (λ x. x && net.linked (min u v) (max u v)) (le-ltb (min u v) (max u v) (omega arith)) ∙ sym (ap (net.linked u) (sym h) ∙ sound.apart u))
   ]
 
   pub means_drawn : (ceiling : ℕ) → net_of (drawn_from ceiling net) ≡ net
@@ -45,11 +47,16 @@ module _ {G : Type 0} (net : Net G) (ceiling u v : ℕ) where
 
   -- ---- after a change, granted or refused
 
-  not_one : (f : Option CallFault) → f ≡ link_fault ceiling net u v → f ≡ None → u ≡ v → ⊥
-  not_one f e n h = ?
+  granted_apart : (t : Bool) (other : Option CallFault) → cond t (Some NoSuchPerson) (cond (eqb u v) (Some SamePerson) other) ≡ None → u ≡ v → ⊥
+  granted_apart true other n h = cc
+  granted_apart false other n h = let e : eqb u v ≡ true = eq-eqb u v h in cc
+
+  after_link_by : (f : Option CallFault) → (f ≡ None → u ≡ v → ⊥)
+      → drawn_from ceiling (unless f (with_link net u v) net) ≡ unless f (changed (drawn_from ceiling net) (Link u v)) (drawn_from ceiling net)
+  after_link_by None h = link_drawn (h refl)
+  after_link_by (Some f) h = refl
 
   pub after_link_lem : Sound net → drawn_from ceiling (after_link ceiling net u v) ≡ after_edit pair_edits (drawn_from ceiling net) (Link u v)
-  after_link_lem s = go (link_fault ceiling net u v) refl
-    where
-      go : (f : Option CallFault) → f ≡ link_fault ceiling net u v → drawn_from ceiling (after_link ceiling net u v) ≡ after_edit pair_edits (drawn_from ceiling net) (Link u v)
-      go f e = ?
+  after_link_lem s =
+      after_link_by (link_fault ceiling net u v) (λ n h. granted_apart _ _ n h)
+      ∙ ap (λ m. unless (link_fault ceiling m u v) (changed (drawn_from ceiling net) (Link u v)) (drawn_from ceiling net)) (sym (means_drawn net s ceiling))
