@@ -1,13 +1,12 @@
-use Rattle.std.proofs.Common.{◌≡◌, ◌*◌, true, false, [], ◌∷◌, length, is_ok, sym, ap, ◌∙◌, subst, arith}
+use Rattle.std.proofs.Common.{◌*◌, [], ◌∷◌, length, is_ok, sym, ap, ◌∙◌, subst, arith}
 use Rattle.std.proofs.lemmas.List.{with_items_is}
-use Rattle.faults.specs.Answers.{answered}
 use Rattle.networks.specs.Fixed.{opened, opened_size}
 use Rattle.networks.specs.Places.{filled}
 use Rattle.networks.proofs.Refusals.{granted_none, refused_none}
 use Rattle.matrix.specs.Bits.{stride, net_in}
 use Rattle.matrix.specs.Memory.{refusal_for, fixed_in}
 use Rattle.matrix.proofs.Pairs.{Kept}
-use Rattle.matrix.proofs.Clears.{room_for, cleared_keeps, cleared_net, cleared_fixed, none_keeps, none_net}
+use Rattle.matrix.proofs.Clears.{room_for, cleared_keeps, cleared_net, cleared_fixed, none_net}
 use Rattle.matrix.proofs.opening.BitMatrixOpening.open.Goals as goal
 
 pub invariant_of-result : goal.invariant_of-result
