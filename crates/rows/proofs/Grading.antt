@@ -1,5 +1,5 @@
 -- One grade replaced. Assumes nothing.
-use Rattle.std.proofs.Common.{◌≡◌, ℕ, ◌*◌, ◌<◌, List, [], ◌∷◌, length, take, drop, set, ap, ap₂}
+use Rattle.std.proofs.Common.{◌≡◌, ℕ, ◌*◌, ◌<◌, List, [], ◌∷◌, length, drop, set, ap, ap₂}
 use Rattle.std.proofs.lemmas.List.{drop-set-lt, length-set}
 use Rattle.networks.specs.Changes.{with_grade}
 use Rattle.networks.specs.Fixed.{Fixed}

@@ -3,7 +3,7 @@ use Rattle.std.proofs.Common.{◌≡◌, ℕ, ◌*◌, ◌<◌, ◌≤◌, List,
 use Rattle.std.specs.List.{range_with_len}
 use Rattle.rows.specs.declared.rows.AdjacencyRows.{AdjacencyRows}
 use Rattle.rows.specs.Row.{Ready, row_of}
-use Rattle.rows.specs.Rows.{linked_in, Within, Listed, Apart, Bothways}
+use Rattle.rows.specs.Rows.{linked_in, Within, Listed}
 use Rattle.rows.proofs.Neighbourhoods.{tidy_rising, row_near}
 use Rattle.rows.proofs.Overwriting.{row_long}
 use Rattle.rows.proofs.Stretches.{row_ends, first_small}
@@ -17,11 +17,6 @@ pub record Kept (n span : ℕ) (counts cells : List ℕ) : Type 0 where
 
 pub kept_in : {G : Type 0} (s : AdjacencyRows G) → Kept s.n s.span (vec_items s.counts) (vec_items s.cells)
 kept_in s = record { counted = s.counted; roomy = s.roomy; within = s.within; listed = s.listed }
-
--- the facts in the order in which the rows owe them
-pub owed : {n span : ℕ} {counts cells : List ℕ} {Few Narrow Graded : Type 0} → Few → Narrow → Graded → Kept n span counts cells → Apart (linked_in n span counts cells) → Bothways (linked_in n span counts cells)
-    → Few × (Narrow × ((n ≤ length counts) × ((n * span ≤ length cells) × (Graded × (Within n span counts × (Listed n span counts cells × (Apart (linked_in n span counts cells) × (Bothways (linked_in n span counts cells) × Unit {0}))))))))
-owed few narrow graded kept apart bothways = (few, (narrow, (kept.counted, (kept.roomy, (graded, (kept.within, (kept.listed, (apart, (bothways, tt)))))))))
 
 module _ {n span : ℕ} {counts cells : List ℕ} (kept : Kept n span counts cells) (u : ℕ) (inside : u < n) where
   pub row_counts : length (row_of span counts cells u) ≡ get_or counts u 0

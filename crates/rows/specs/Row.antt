@@ -10,7 +10,7 @@
 --     written_at i xs cells        cells with xs written from the place i on
 --     Rewritten edit span u counts cells counts' cells'     the row of u is edited, its count too, and all else stays
 --     BothRewritten edit span u v counts cells counts' cells'     v is edited into the row of u, then u into the row of v
-use Rattle.std.specs.Prelude.{◌≡◌, ℕ, ◌+◌, ◌*◌, ◌^◌, ◌<◌, ◌≤◌, Bool, false, ◌||◌, List, [], ◌∷◌, ◌++◌, length, take, drop, filter, ◌==◌, nat_lt, slice_index, slice_index_or, slice_set}
+use Rattle.std.specs.Prelude.{◌≡◌, ℕ, ◌+◌, ◌*◌, ◌^◌, ◌<◌, ◌≤◌, Bool, false, ◌||◌, List, [], ◌∷◌, ◌++◌, length, take, drop, filter, ◌==◌, nat_lt, slice_index, slice_set}
 use Rattle.std.specs.List.{range_with_len, insert, remove}
 
 abbrev pub has : ℕ → List ℕ → Bool
@@ -38,7 +38,7 @@ row_of span counts cells u = take (slice_index counts u) (drop (u * span) cells)
 pub record Ready (span : ℕ) (counts cells : List ℕ) (u : ℕ) : Type 0 where
   pub known : u < length counts
   pub small : u * span < 2 ^ 32
-  pub within : slice_index_or counts u 0 ≤ span
+  pub within : slice_index counts u ≤ span
   pub roomy : u * span + span ≤ length cells
   pub rising : Rising (row_of span counts cells u)
 

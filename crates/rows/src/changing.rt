@@ -1,5 +1,5 @@
 // Adjacency rows as a network for changing: the ceiling is the span.
-ghost use Rattle.std.proofs.Common.{rules, arith};
+ghost use Rattle.std.proofs.Common.{refl};
 
 use crate::pairs::{join, sever};
 use crate::rows::AdjacencyRows;
@@ -10,7 +10,7 @@ use networks::{Changing, Network};
 impl<G: Grade + Drop> Changing for AdjacencyRows<G> {
     ghost ceiling_of = { λ s. s.span };
 
-    ghost settled = { first_of (Prim.search rules, Prim.grind (arith, Self.row.coded.inj)) };
+    ghost settled = { λ s. refl };
 
     fn ceiling(&self) -> usize {
         self.span

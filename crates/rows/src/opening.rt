@@ -2,7 +2,7 @@
 ghost use Rattle.std.specs.Prelude.{◌≡◌};
 ghost use Rattle.networks.specs.Places.{filled};
 ghost use Rattle.rows.specs.Memory.{sizes_of, refusal_by, fixed_in, HoldsNet};
-ghost use Rattle.std.proofs.Common.{rules, arith};
+ghost use Rattle.std.proofs.Common.{refl};
 
 use crate::rows::{AdjacencyRows, RowsMemory};
 use faults::CallFault;
@@ -44,9 +44,9 @@ impl<G: Grade + Drop> Opening for AdjacencyRows<G> {
 
     ghost Holds = { λ net f m. HoldsNet net f m.span m.counts.items m.cells.items m.grades.items };
 
-    ghost sized = { first_of (Prim.search rules, Prim.grind (arith, Self.row.coded.inj)) };
+    ghost sized = { λ n m. refl };
 
-    ghost back = { first_of (Prim.search rules, Prim.grind (arith, Self.row.coded.inj)) };
+    ghost back = { λ net f m h. h.sizes };
 
     fn check(n: usize, memory: &RowsMemory<G>) -> Result<(), CallFault> {
         match refused(n, memory) {

@@ -4,8 +4,8 @@ use Rattle.rows.proofs.Overwriting.{entered_long, row_long}
 use Rattle.rows.proofs.Rewriting.{untouched}
 use Rattle.rows.proofs.pairs.join.Goals as goal
 
-pub put-in-requires-2 : goal.put-in-requires-2
-put-in-requires-2 c =
+pub put_in-requires-2 : goal.put_in-requires-2
+put_in-requires-2 c =
     let counts = c.args.counts.now in
     let cells = c.args.cells.now in
     let span = c.args.span in
@@ -13,9 +13,9 @@ put-in-requires-2 c =
     let v = c.args.v in
     let p = c.requires in
     let long = row_long cells (u * span) (get_or counts u 0) (omega (arith, p.ready.roomy, p.ready.within)) in
-    let other = untouched (entered v) span counts cells c.put-in.new.counts c.put-in.new.cells u v c.put-in.ensures
+    let other = untouched (entered v) span counts cells c.put_in.new.counts c.put_in.new.cells u v c.put_in.ensures
     (omega (arith, entered_long v (row_of span counts cells u), p.room)) p.ready p.other (λ e. p.apart (sym e)) in
-    record { ready = other.ready; narrow = p.narrow; room = omega (arith, other.count, p.other-room); short = p.short }
+    record { ready = other.ready; narrow = p.narrow; room = omega (arith, other.count, p.other_room); short = p.short }
 
 pub returns : goal.returns
-returns c = record { counts_between = c.put-in.new.counts; cells_between = c.put-in.new.cells; first = c.put-in.ensures; second = c.put-in-2.ensures }
+returns c = record { counts_between = c.put_in.new.counts; cells_between = c.put_in.new.cells; first = c.put_in.ensures; second = c.put_in-2.ensures }

@@ -4,8 +4,8 @@ use Rattle.rows.proofs.Overwriting.{leaving_long, row_long}
 use Rattle.rows.proofs.Rewriting.{untouched}
 use Rattle.rows.proofs.pairs.sever.Goals as goal
 
-pub take-out-requires-2 : goal.take-out-requires-2
-take-out-requires-2 c =
+pub take_out-requires-2 : goal.take_out-requires-2
+take_out-requires-2 c =
     let counts = c.args.counts.now in
     let cells = c.args.cells.now in
     let span = c.args.span in
@@ -13,9 +13,9 @@ take-out-requires-2 c =
     let v = c.args.v in
     let p = c.requires in
     let long = row_long cells (u * span) (get_or counts u 0) (omega (arith, p.ready.roomy, p.ready.within)) in
-    let other = untouched (leaving v) span counts cells c.take-out.new.counts c.take-out.new.cells u v c.take-out.ensures
+    let other = untouched (leaving v) span counts cells c.take_out.new.counts c.take_out.new.cells u v c.take_out.ensures
     (omega (arith, leaving_long v (row_of span counts cells u), p.ready.within)) p.ready p.other (λ e. p.apart (sym e)) in
-    record { ready = other.ready; stands = ap (has u) other.row ∙ p.other-stands }
+    record { ready = other.ready; stands = ap (has u) other.row ∙ p.other_stands }
 
 pub returns : goal.returns
-returns c = record { counts_between = c.take-out.new.counts; cells_between = c.take-out.new.cells; first = c.take-out.ensures; second = c.take-out-2.ensures }
+returns c = record { counts_between = c.take_out.new.counts; cells_between = c.take_out.new.cells; first = c.take_out.ensures; second = c.take_out-2.ensures }

@@ -9,8 +9,8 @@ returns-then-u-self g c =
     let s = c.args.self.now in
     record { value = nobody_near s.n s.span s.counts.items s.cells.items c.args.u c.if-u-self.true; rising = λ i j h l. absurd (omega arith) }
 
-pub row-of-requires : goal.row-of-requires
-row-of-requires g c =
+pub row_of-requires : goal.row_of-requires
+row_of-requires g c =
     let s = c.args.self.now in
     ready_lent (kept_in s) c.args.u c.if-u-self.false s.few (s.narrow (omega arith)) c.deref.ensures.value c.deref-2.ensures.value
 
@@ -19,7 +19,7 @@ returns g c =
     let s = c.args.self.now in
     let u = c.args.u in
     let h = c.if-u-self.false in
-    let e = c.row-of.ensures ∙ ap₂ (λ xs ys. row_of s.span xs ys u) c.deref.ensures.value c.deref-2.ensures.value in
+    let e = c.row_of.ensures ∙ ap₂ (λ xs ys. row_of s.span xs ys u) c.deref.ensures.value c.deref-2.ensures.value in
     record {
       value = e ∙ row_near s.n s.span s.counts.items s.cells.items u h (s.listed u h);
       rising = subst Rising (sym e) (tidy_rising s.n (row_of s.span s.counts.items s.cells.items u) (s.listed u h));
