@@ -1,7 +1,7 @@
 -- Answers that go by the first refusal that applies, if one does. Assumes nothing.
 --     answered f a                a, or the refusal
 --     unless f a b                a where nothing is refused, else b
---     code_of r                    0 where granted, else the refusal's number
+--     code_of r                   0 where granted, else the refusal's number
 use Rattle.std.specs.Prelude.{ℕ, Some, None, Ok, Err, Option, Result}
 use Rattle.faults.specs.declared.call_fault.CallFault.{CallFault}
 use Rattle.faults.specs.Numbers.{number_of}

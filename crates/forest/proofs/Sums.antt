@@ -109,7 +109,7 @@ from_step f j (suc n) l = go (cases_eq j n) (from_step f j n)
     go (inr d) ih = omega (arith, ih (omega arith), from_suc f j n, from_suc f (suc j) n, takes j (omega arith), takes (suc j) (omega arith))
 
 pub adding_up_is_whole : Adding-up-is-whole
-adding_up_is_whole g o le t str k own_of_lem whole sum h l = (
+adding_up_is_whole g o le t str k own_of whole sum h l = (
   omega (arith, from_end F (rounds g le k)),
   (λ j b. omega (arith, from_step F j (rounds g le k) b)),
   (λ j b. omega (arith, sum h l, from_all F j (rounds g le k) (λ i c d. early i c (omega arith)))),

@@ -3,12 +3,10 @@ use Rattle.std.proofs.Common.{◌≡◌, ℕ, zero, suc, ◌<◌, ◌≤◌, fal
 use mathlib.Core.Option.{none, Option, some}
 use Rattle.std.specs.List.{range_with_len}
 use Rattle.std.proofs.lemmas.Bool.{both_ways, eq-eqb, eqb-true}
-use Rattle.std.proofs.lemmas.Bool.Decides.{nat_tests as tells}
 use Rattle.theory.specs.Circles.{Circle, Own}
 use Rattle.theory.specs.Cores.{core_number}
 use Rattle.theory.specs.Graphs.{Graph, Lawful}
-use Rattle.theory.specs.Listing.{every}
-use Rattle.theory.specs.Orders.{Order, Strict, Weakest, weakest}
+use Rattle.theory.specs.Orders.{Order, Strict, Weakest}
 use Rattle.theory.specs.Sets.{◌among◌, any_of, ListOf, Pairwise, Relation, Set, ◌∈◌}
 use Rattle.theory.proofs.Circles.{circle_weakest, group_of}
 use Rattle.theory.proofs.Lists.{all_among, all_from, among_append, any_of_lem, pairwise_append, pairwise_same}

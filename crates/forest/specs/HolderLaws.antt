@@ -40,9 +40,9 @@ Sizes-add-up =
 
 abbrev pub Adding-up-is-whole : Type 0
 Adding-up-is-whole =
-    (g : Graph) → Lawful g → (le : Relation) → Order le → Strict le → (k : ℕ) (own_of_lem whole : ℕ → ℕ) →
-    ((h : ℕ) → h < rounds g le k → whole h ≡ own_of_lem h + total (held_by g le k h whole) (rounds g le k)) →
+    (g : Graph) → Lawful g → (le : Relation) → Order le → Strict le → (k : ℕ) (own_of whole : ℕ → ℕ) →
+    ((h : ℕ) → h < rounds g le k → whole h ≡ own_of h + total (held_by g le k h whole) (rounds g le k)) →
     (h : ℕ) → h < rounds g le k →
-    (own_of_lem h + total_from (held_by g le k h whole) (rounds g le k) (rounds g le k) ≡ own_of_lem h)
-    × ((j : ℕ) → j < rounds g le k → own_of_lem h + total_from (held_by g le k h whole) j (rounds g le k) ≡ held_by g le k h whole j + (own_of_lem h + total_from (held_by g le k h whole) (suc j) (rounds g le k)))
-    × ((j : ℕ) → j ≤ suc h → own_of_lem h + total_from (held_by g le k h whole) j (rounds g le k) ≡ whole h)
+    (own_of h + total_from (held_by g le k h whole) (rounds g le k) (rounds g le k) ≡ own_of h)
+    × ((j : ℕ) → j < rounds g le k → own_of h + total_from (held_by g le k h whole) j (rounds g le k) ≡ held_by g le k h whole j + (own_of h + total_from (held_by g le k h whole) (suc j) (rounds g le k)))
+    × ((j : ℕ) → j ≤ suc h → own_of h + total_from (held_by g le k h whole) j (rounds g le k) ≡ whole h)

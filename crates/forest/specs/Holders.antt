@@ -1,12 +1,12 @@
 -- Which circle holds which: by circles, and by rounds. Assumes nothing.
 --     HolderOf g le k S h         h is the weakest person of the smallest other circle that holds S, or none if no other does
---     last_below p n               the last number below n that passes
+--     last_below p n              the last number below n that passes
 --     holder g le k i             the last round before i whose circle has the key of i
 --     Reaches g le k a c          from round a to round c by following holders
 --     is j h                      is h the number j
 --     chosen_round g le k choice i the choice, of rounds: every round, or those that are no round's holder
---     held_by g le k j f           f of the rounds that j is the holder of, 0 of the others
---     total_from f j n             the sum of f over the numbers from j to n
+--     held_by g le k j f          f of the rounds that j is the holder of, 0 of the others
+--     total_from f j n            the sum of f over the numbers from j to n
 use Rattle.std.specs.Prelude.{◌≡◌, ℕ, zero, suc, Bool, true, false, cond, not, ◌==◌, nat_le}
 use Rattle.std.proofs.Math.Option.{Option, some, none}
 use Rattle.theory.specs.Sets.{Set, Relation, ◌⊆◌, Larger, total, any}

@@ -1,11 +1,11 @@
 -- What is read from a tree: the vertices for k, the circle of a vertex, its holder, the listing. Assumes nothing.
---     of_number k vs               the vertices for k
---     under_of vs w                the holder's name in the first vertex named w
+--     of_number k vs              the vertices for k
+--     under_of vs w               the holder's name in the first vertex named w
 --     climbs vs n x w             do at most n steps from x to its holder come to w
 --     gathered vs w               the persons of all vertices from which the holders lead to w
 --     choose choice vs            the vertices that are chosen: all, or those that are no vertex's holder
 --     pick n vs k r choice        the listing for k, r and the choice, from the tree of n persons
-use Rattle.std.specs.Prelude.{ℕ, zero, suc, Bool, true, false, cond, not, ◌&&◌, ◌||◌, List, [], ◌∷◌, map, length, filter, ◌==◌, nat_eq}
+use Rattle.std.specs.Prelude.{ℕ, zero, suc, Bool, false, cond, not, ◌&&◌, ◌||◌, List, [], ◌∷◌, map, length, filter, ◌==◌, nat_eq}
 use Rattle.std.proofs.Math.Option.{Option, some, none}
 use Rattle.theory.specs.Sets.{Set, any_of, has, members}
 use Rattle.theory.specs.Listing.{Choice, every, innermost, Entry, last}

@@ -4,15 +4,15 @@
 --     Before le x y               x comes first: of a smaller k, or of the same k and weaker
 --     TreeOf g le vs              vs has one vertex for each circle for each k from 1 on, in that order
 --     named f h                   f of the number, if there is one
---     vertex_at g le k i           the vertex of round i
---     tree_for g le k              the vertices for k
---     trees_from g le k n          the vertices for n numbers, from k on
+--     vertex_at g le k i          the vertex of round i
+--     tree_for g le k             the vertices for k
+--     trees_from g le k n         the vertices for n numbers, from k on
 --     largest f n                 the largest of f below n
 --     tree g le                   the tree, as a function
 --     entries vs                  how many persons stand in the vertices
 use Rattle.std.specs.Prelude.{◌≡◌, ℕ, zero, suc, ◌+◌, ◌<◌, ◌≤◌, max, ◌⊎◌, List, [], ◌∷◌, ◌++◌, map, length}
 use Rattle.std.proofs.Math.Option.{Option, some, none}
-use Rattle.std.specs.List.{range_with_len, AllByRecursion as All}
+use Rattle.std.specs.List.{range_with_len, AllByRecursion}
 use Rattle.theory.specs.Sets.{Set, Relation, ◌among◌, Pairwise, members, ListOf}
 use Rattle.theory.specs.Graphs.{Graph}
 use Rattle.theory.specs.Orders.{Below, Weakest}
@@ -37,7 +37,7 @@ abbrev pub Before : Relation → Vertex → Vertex → Type 0
 Before le x y = (x.k < y.k) ⊎ ((x.k ≡ y.k) × Below le x.weakest y.weakest)
 
 pub record TreeOf (g : Graph) (le : Relation) (vs : List Vertex) : Type 0 where
-  pub each : All (λ x. (1 ≤ x.k) × ((S : Set) × VertexOf g le S x)) vs
+  pub each : AllByRecursion (λ x. (1 ≤ x.k) × ((S : Set) × VertexOf g le S x)) vs
   pub every : (k : ℕ) (S : Set) → 1 ≤ k → Circle g le k S → (x : Vertex) × (x among vs) × (x.k ≡ k) × VertexOf g le S x
   pub rising : Pairwise (Before le) vs
 

@@ -1,11 +1,10 @@
 -- The check byte: with it the sum is a multiple of 256, and only with it. Assumes nothing.
-use Rattle.std.proofs.Common.{◌≡◌, ℕ, suc, ◌+◌, ◌-◌, ◌%◌, ◌<◌, ◌≤◌, Bool, true, false, cond, eqb, List, [], ◌∷◌, ◌++◌, length, get_or, take, drop, Some, None, Option, sym, refl, ap, ◌∙◌, arith}
-use Rattle.std.specs.List.{AllByRecursion as All}
+use Rattle.std.proofs.Common.{◌≡◌, ℕ, ◌+◌, ◌-◌, ◌%◌, ◌<◌, Bool, true, false, cond, eqb, List, [], ◌∷◌, ◌++◌, length, get_or, take, drop, Some, None, sym, refl, ap, ◌∙◌, arith}
+use Rattle.std.specs.List.{AllByRecursion}
 use Rattle.std.proofs.ByRecursion.{All-get_or, All-push}
 use Rattle.std.proofs.lemmas.List.{drop_more, drop_all, take-append-drop, length-append}
 use Rattle.std.proofs.lemmas.Bool.{eq-eqb, eqb-true}
 use Rattle.grades.specs.Places.{Byte}
-use Rattle.frames.specs.declared.fault.FrameFault.{FrameFault}
 use Rattle.frames.specs.declared.fault.FrameFault.TheVariants.{UnknownKind, WrongLength, WrongCheck}
 use Rattle.frames.specs.Frames.{total, check_of, framed, frame_fault}
 
@@ -16,7 +15,7 @@ total_push (x ∷ xs) y = let e = total_push xs y in omega arith
 pub framed_sum : (xs : List ℕ) → total (framed xs) % 256 ≡ 0
 framed_sum xs = let e = total_push xs (check_of xs) in omega arith
 
-pub framed_bytes : (xs : List ℕ) → All Byte xs → All Byte (framed xs)
+pub framed_bytes : (xs : List ℕ) → AllByRecursion Byte xs → AllByRecursion Byte (framed xs)
 framed_bytes xs h = All-push Byte xs (check_of xs) h (omega arith)
 
 pub length_framed : (xs : List ℕ) → length (framed xs) ≡ length xs + 1
@@ -29,7 +28,7 @@ split_last bs h =
     let e : drop (n + 1) bs ≡ [] = drop_all (n + 1) bs (omega arith) in
     sym (ap (λ r. take n bs ++ r) (drop_more bs n 0 l ∙ ap (λ r. get_or bs n 0 ∷ r) e)) ∙ take-append-drop n bs
 
-pub unframed : (bs : List ℕ) → All Byte bs → 0 < length bs → total bs % 256 ≡ 0 → framed (take (length bs - 1) bs) ≡ bs
+pub unframed : (bs : List ℕ) → AllByRecursion Byte bs → 0 < length bs → total bs % 256 ≡ 0 → framed (take (length bs - 1) bs) ≡ bs
 unframed bs h p s =
     let front = take (length bs - 1) bs in
     let last = get_or bs (length bs - 1) 0 in

@@ -1,19 +1,19 @@
 -- What makes the reading of a kind of message exact, whatever the message. Assumes nothing.
-use Rattle.std.proofs.Common.{◌≡◌, ℕ, suc, ◌+◌, ◌-◌, ◌%◌, ◌<◌, ◌≤◌, Bool, true, false, cond, List, [], ◌∷◌, ◌++◌, length, get_or, take, replicate, is_some, Some, None, Ok, Err, Option, Result, sym, refl, ap, ◌∙◌, subst, arith}
-use Rattle.std.specs.List.{AllByRecursion as All}
+use Rattle.std.proofs.Common.{◌≡◌, ℕ, ◌+◌, ◌-◌, ◌<◌, Bool, true, false, List, [], ◌∷◌, length, take, replicate, is_some, Some, None, Ok, Err, Option, Result, sym, refl, ap, ◌∙◌, arith}
+use Rattle.std.specs.List.{AllByRecursion}
 use Rattle.std.proofs.lemmas.List.{take_at, get_or_append_left}
 use Rattle.std.proofs.lemmas.Bool.{both_ways}
 use Rattle.grades.specs.Places.{Byte}
 use Rattle.frames.specs.declared.fault.FrameFault.{FrameFault}
-use Rattle.frames.specs.declared.fault.FrameFault.TheVariants.{Line, UnknownKind}
+use Rattle.frames.specs.declared.fault.FrameFault.TheVariants.{Line}
 use Rattle.frames.specs.declared.fault.LineFault.{LineFault}
 use Rattle.frames.specs.declared.frame.Frame.{Frame}
 use Rattle.frames.specs.Exact.{Exact, refusal_in}
-use Rattle.frames.specs.Frames.{kind_in, total, framed, check_of, frame_fault}
+use Rattle.frames.specs.Frames.{kind_in, framed, check_of, frame_fault}
 use Rattle.frames.specs.Lines.{line_of, bytes_in, line_fault, granted, unless, held, frame_of, frame_after}
 use Rattle.frames.specs.Reading.{first_of, answered}
 use Rattle.frames.proofs.Checks.{framed_sum, framed_bytes, length_framed, unframed, frame_means, frame_granted}
-use Rattle.frames.proofs.Letters.{Spelt, spelt_line, bytes_back, line_granted}
+use Rattle.frames.proofs.Letters.{spelt_line, bytes_back, line_granted}
 
 refused_by : {E : Type 0} (o : Option E) (e : E) → Err e ≡ granted o → o ≡ Some e
 refused_by None e p = let z : ◌≡◌ {A = ℕ} 0 1 = cc in absurd (omega arith)
@@ -37,12 +37,12 @@ read_passed fault meaning f g cs r a b e =
     e ∙ ap (λ x. answered (fault x) (meaning x)) same ∙ sym (ap (λ o. answered (first_of o (fault bs)) (meaning bs)) none)
 
 pub record Faithful {X : Type 0} (known : ℕ → Bool) (long : ℕ → ℕ) (meaning : List ℕ → Option X) (fields : X → List ℕ) (In : X → Type 0) : Type 0 where
-  pub bytes : (q : X) → In q → All Byte (fields q)
+  pub bytes : (q : X) → In q → AllByRecursion Byte (fields q)
   pub kind : (q : X) → known (kind_in (fields q)) ≡ true
   pub size : (q : X) → length (fields q) + 1 ≡ long (kind_in (fields q))
   pub room : (q : X) → (0 < length (fields q)) × (length (fields q) < 32)
   pub back : (q : X) → In q → meaning (framed (fields q)) ≡ Some q
-  pub forth : (bs : List ℕ) (q : X) → All Byte bs → length bs ≡ long (kind_in bs) → meaning bs ≡ Some q → In q × (fields q ≡ take (length bs - 1) bs)
+  pub forth : (bs : List ℕ) (q : X) → AllByRecursion Byte bs → length bs ≡ long (kind_in bs) → meaning bs ≡ Some q → In q × (fields q ≡ take (length bs - 1) bs)
 
 answer_ok : {X : Type 0} (o : Option FrameFault) (m : Option X) (q : X) → answered o m ≡ Ok q → (o ≡ None) × (m ≡ Some q)
 answer_ok (Some e) m q p = let z : ◌≡◌ {A = ℕ} 0 1 = cc in absurd (omega arith)

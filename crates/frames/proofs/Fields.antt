@@ -1,15 +1,15 @@
 -- Fields of two and four bytes, read and written, and the front of a frame as its bytes. Assumes nothing.
-use Rattle.std.proofs.Common.{◌≡◌, ℕ, ◌+◌, ◌-◌, ◌*◌, ◌/◌, ◌%◌, ◌<◌, ◌≤◌, Bool, true, false, cond, eqb, ◌⊎◌, List, [], ◌∷◌, ◌++◌, map, length, get_or, take, drop, is_some, Some, None, Option, sym, refl, ap, ◌∙◌, subst, inl, inr, arith}
-use Rattle.std.specs.List.{range_with_len, AllByRecursion as All}
+use Rattle.std.proofs.Common.{◌≡◌, ℕ, ◌+◌, ◌-◌, ◌*◌, ◌/◌, ◌%◌, ◌<◌, ◌≤◌, Bool, true, false, cond, eqb, ◌⊎◌, List, [], ◌∷◌, ◌++◌, map, length, get_or, take, drop, is_some, Some, Option, sym, refl, ap, ◌∙◌, subst, inl, inr, arith}
+use Rattle.std.specs.List.{range_with_len, AllByRecursion}
 use Rattle.std.proofs.lemmas.List.FromFn.{fill_by_all}
 use Rattle.std.proofs.ByRecursion.{All-get_or}
 use Rattle.std.proofs.lemmas.List.{drop-take, get_or_past, get_or-take, length-take-le, take-append-drop, take-take}
-use Rattle.std.proofs.lemmas.Bool.{cases_lt, eqb-true, eqb-false, ne_eqb}
+use Rattle.std.proofs.lemmas.Bool.{cases_lt, eqb-true, eqb-false}
 use Rattle.grades.specs.Encoding.{bytes32, number32}
 use Rattle.grades.specs.Places.{Byte}
 use Rattle.frames.specs.Frames.{bytes16, word_at, long_at}
 
-pub byte_at : (bs : List ℕ) → All Byte bs → (i : ℕ) → get_or bs i 0 < 256
+pub byte_at : (bs : List ℕ) → AllByRecursion Byte bs → (i : ℕ) → get_or bs i 0 < 256
 byte_at bs h i = elim (cases_lt i (length bs)) [
   | inl l ↦ All-get_or Byte bs i 0 l h
   | inr l ↦ (let e = get_or_past bs i 0 l in omega arith)
@@ -27,10 +27,10 @@ four_digits a b c d x y n e f g = omega arith
 pub long_back : (n : ℕ) → n < 4294967296 → number32 (n / 16777216 % 256) (n / 65536 % 256) (n / 256 % 256) (n % 256) ≡ n
 long_back n h = four_digits (n / 16777216 % 256) (n / 65536 % 256) (n / 256 % 256) (n % 256) (n / 256) (n / 65536) n (omega arith) (omega arith) (omega arith)
 
-pub word_bytes : (n : ℕ) → All Byte (bytes16 n)
+pub word_bytes : (n : ℕ) → AllByRecursion Byte (bytes16 n)
 word_bytes n = (omega arith, (omega arith, tt))
 
-pub long_bytes : (n : ℕ) → All Byte (bytes32 n)
+pub long_bytes : (n : ℕ) → AllByRecursion Byte (bytes32 n)
 long_bytes n = (omega arith, (omega arith, (omega arith, (omega arith, tt))))
 
 two_bytes : (a b : ℕ) → a < 256 → b < 256 → (a * 256 + b < 65536) × (bytes16 (a * 256 + b) ≡ a ∷ b ∷ [])
@@ -51,7 +51,7 @@ four_bytes a b c d ha hb hc hd =
           ∙ ap (λ x. a ∷ b ∷ x ∷ (n % 256) ∷ []) ec ∙ ap (λ x. a ∷ b ∷ c ∷ x ∷ []) ed,
     )
 
-module _ (bs : List ℕ) (h : All Byte bs) where
+module _ (bs : List ℕ) (h : AllByRecursion Byte bs) where
   pub word_at_lem : (i : ℕ) → (word_at bs i < 65536) × (bytes16 (word_at bs i) ≡ get_or bs i 0 ∷ get_or bs (i + 1) 0 ∷ [])
   word_at_lem i = two_bytes (get_or bs i 0) (get_or bs (i + 1) 0) (byte_at bs h i) (byte_at bs h (i + 1))
 
@@ -59,7 +59,7 @@ module _ (bs : List ℕ) (h : All Byte bs) where
   long_at_lem i = four_bytes (get_or bs i 0) (get_or bs (i + 1) 0) (get_or bs (i + 2) 0) (get_or bs (i + 3) 0) (byte_at bs h i) (byte_at bs h (i + 1)) (byte_at bs h (i + 2)) (byte_at bs h (i + 3))
 
 -- the bytes before the check, for each sequence of fields
-module _ (bs : List ℕ) (h : All Byte bs) (k : ℕ) (kind : get_or bs 0 0 ≡ k) where
+module _ (bs : List ℕ) (h : AllByRecursion Byte bs) (k : ℕ) (kind : get_or bs 0 0 ≡ k) where
   before_check : (n : ℕ) → length bs ≡ n + 1 → take (length bs - 1) bs ≡ map (λ i. get_or bs i 0) (range_with_len 0 n)
   before_check n l = let e : length bs - 1 ≡ n = omega arith in ap (λ m. take m bs) e ∙ front bs n (omega arith)
 

@@ -1,10 +1,9 @@
 -- Digits and bytes stand for each other: lines of digits and lists of bytes, both ways. Assumes nothing.
-use Rattle.std.proofs.Common.{◌≡◌, ℕ, ◌+◌, ◌*◌, ◌/◌, ◌%◌, ◌<◌, ◌≤◌, Bool, true, false, cond, ◌&&◌, List, [], ◌∷◌, length, Some, None, Option, sym, refl, ap, ◌∙◌, arith}
-use Rattle.std.specs.List.{AllByRecursion as All}
+use Rattle.std.proofs.Common.{◌≡◌, ℕ, ◌+◌, ◌*◌, ◌/◌, ◌%◌, ◌<◌, ◌≤◌, Bool, true, false, cond, List, [], ◌∷◌, length, Some, None, refl, ap, ◌∙◌, arith}
+use Rattle.std.specs.List.{AllByRecursion}
 use Rattle.std.proofs.lemmas.Bool.{and_parts, and_from}
 use Rattle.std.proofs.lemmas.Bool.Decides.{nat_tests}
 use Rattle.grades.specs.Places.{Byte}
-use Rattle.frames.specs.declared.fault.LineFault.{LineFault}
 use Rattle.frames.specs.declared.fault.LineFault.TheVariants.{WrongSize, NoDigit}
 use Rattle.frames.specs.Digits.{is_digit, value_of, letter_of}
 use Rattle.frames.specs.Lines.{all_digits, bytes_in, line_of, wrong_size, line_fault}
@@ -19,7 +18,7 @@ value_of_letter d h = (grind (arith, nat_tests), grind (arith, nat_tests))
 -- the bytes of a line of digits, an even number of them
 pub record Spelt (cs : List ℕ) : Type 0 where
   pub again : line_of (bytes_in cs) ≡ cs
-  pub bytes : All Byte (bytes_in cs)
+  pub bytes : AllByRecursion Byte (bytes_in cs)
   pub half : 2 * length (bytes_in cs) ≡ length cs
 
 spelt_more : (a b : ℕ) (cs : List ℕ) → is_digit a ≡ true → is_digit b ≡ true → Spelt cs → Spelt (a ∷ b ∷ cs)
@@ -64,7 +63,7 @@ digits_of (b ∷ bs) =
     let lo : b % 16 < 16 = omega arith in
     and_from _ _ (value_of_letter (b / 16 % 16) hi).0 (and_from _ _ (value_of_letter (b % 16) lo).0 (digits_of bs))
 
-pub bytes_back : (bs : List ℕ) → All Byte bs → bytes_in (line_of bs) ≡ bs
+pub bytes_back : (bs : List ℕ) → AllByRecursion Byte bs → bytes_in (line_of bs) ≡ bs
 bytes_back [] h = refl
 bytes_back (b ∷ bs) h =
     let byte = h.0 in

@@ -1,6 +1,6 @@
 -- Replies are read from the bytes that they are written as, and from no others. Assumes nothing.
-use Rattle.std.proofs.Common.{◌≡◌, ℕ, ◌+◌, ◌-◌, ◌<◌, ◌≤◌, true, ◌⊎◌, List, [], ◌∷◌, ◌++◌, length, get_or, take, Some, None, Option, sym, refl, ap, ◌∙◌, inl, inr, arith}
-use Rattle.std.specs.List.{AllByRecursion as All}
+use Rattle.std.proofs.Common.{◌≡◌, ℕ, ◌+◌, ◌-◌, ◌<◌, true, List, ◌∷◌, length, get_or, take, Some, None, Option, sym, refl, ap, ◌∙◌, inl, inr, arith}
+use Rattle.std.specs.List.{AllByRecursion}
 use Rattle.std.proofs.ByRecursion.{All-append}
 use Rattle.grades.specs.Encoding.{bytes32}
 use Rattle.grades.specs.Places.{Byte}
@@ -20,7 +20,7 @@ layer_byte layer.Line = omega arith
 layer_byte layer.Frame = omega arith
 layer_byte layer.Call = omega arith
 
-reply_bytes_lem : (p : Reply) → ReplyFits p → All Byte (reply_bytes p)
+reply_bytes_lem : (p : Reply) → ReplyFits p → AllByRecursion Byte (reply_bytes p)
 reply_bytes_lem (Done k) h = (omega arith, (h, tt))
 reply_bytes_lem (Entries n) h = (omega arith, long_bytes n)
 reply_bytes_lem (Circle w m) h = (omega arith, All-append Byte (bytes16 w) (bytes16 m) (word_bytes w) (word_bytes m))
@@ -91,7 +91,7 @@ layer_forth b l e =
           ]
     ]
 
-module _ (bs : List ℕ) (h : All Byte bs) (p : Reply) where
+module _ (bs : List ℕ) (h : AllByRecursion Byte bs) (p : Reply) where
   abbrev Fits : Reply → Type 0
   Fits x = ReplyFits x × (reply_bytes x ≡ take (length bs - 1) bs)
 

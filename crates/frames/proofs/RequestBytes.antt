@@ -1,8 +1,8 @@
 -- Requests are read from the bytes that they are written as, and from no others. Assumes nothing.
-use Rattle.std.proofs.Common.{◌≡◌, ℕ, suc, ◌+◌, ◌-◌, ◌<◌, ◌≤◌, true, ◌⊎◌, List, [], ◌∷◌, ◌++◌, length, get_or, take, drop, is_some, Some, None, Option, Result, sym, refl, ap, ◌∙◌, subst, inl, inr, arith}
-use Rattle.std.specs.List.{AllByRecursion as All}
+use Rattle.std.proofs.Common.{◌≡◌, ℕ, ◌+◌, ◌-◌, ◌<◌, ◌≤◌, true, List, [], ◌∷◌, ◌++◌, length, take, drop, is_some, Some, None, Option, Result, sym, refl, ap, ◌∙◌, subst, inl, inr, arith}
+use Rattle.std.specs.List.{AllByRecursion}
 use Rattle.std.proofs.ByRecursion.{All-append, All-take, All-drop}
-use Rattle.std.proofs.lemmas.List.{length-drop, length-take-le, drop-take, take_at, take-append-drop}
+use Rattle.std.proofs.lemmas.List.{length-drop, length-take-le, take_at}
 use Rattle.std.proofs.lemmas.Bool.Decides.{nat_tests}
 use Rattle.grades.specs.Places.{Byte}
 use Rattle.frames.specs.declared.fault.FrameFault.{FrameFault}
@@ -12,7 +12,7 @@ use Rattle.frames.specs.Exact.{Exact, refusal_in, request_line}
 use Rattle.frames.specs.Frames.{kind_in, bytes16, word_at, framed, check_of}
 use Rattle.frames.specs.Kinds.{is_request, length_of}
 use Rattle.frames.specs.Reading.{read_request, request_refusal}
-use Rattle.frames.specs.Requests.{request_bytes, request_as, request_of, regraded, RequestFits}
+use Rattle.frames.specs.Requests.{request_bytes, request_of, regraded, RequestFits}
 use Rattle.frames.proofs.Faithful.{Faithful, exact_of, refusal_of_lem}
 use Rattle.frames.proofs.Fields.{byte_at, word_back, word_bytes, word_at_lem, landed, no_field, one_word, two_words, two_words_byte, one_word_rest, either_kind, some_kind}
 
@@ -20,14 +20,14 @@ use Rattle.frames.proofs.Fields.{byte_at, word_back, word_bytes, word_at_lem, la
 pub record Encoded {G : Type 0} (In : G → Type 0) (put : G → List ℕ) (get : List ℕ → Option G) (size : ℕ) : Type 0 where
   pub narrow : size ≤ 16
   pub sized : (g : G) → length (put g) ≡ size
-  pub whole : (g : G) → In g → All Byte (put g)
+  pub whole : (g : G) → In g → AllByRecursion Byte (put g)
   pub back : (g : G) → In g → get (put g) ≡ Some g
-  pub forth : (bs : List ℕ) (g : G) → All Byte bs → get bs ≡ Some g → put g ≡ bs
-  pub ranged : (bs : List ℕ) (g : G) → All Byte bs → get bs ≡ Some g → In g
+  pub forth : (bs : List ℕ) (g : G) → AllByRecursion Byte bs → get bs ≡ Some g → put g ≡ bs
+  pub ranged : (bs : List ℕ) (g : G) → AllByRecursion Byte bs → get bs ≡ Some g → In g
   pub known : (bs : List ℕ) → length bs ≡ size → is_some (get bs) ≡ true
 
 module _ {G : Type 0} (In : G → Type 0) (put : G → List ℕ) (get : List ℕ → Option G) (size : ℕ) (law : Encoded In put get size) where
-  request_bytes_lem : (q : Request G) → RequestFits In q → All Byte (request_bytes put q)
+  request_bytes_lem : (q : Request G) → RequestFits In q → AllByRecursion Byte (request_bytes put q)
   request_bytes_lem (Open n) h = (omega arith, word_bytes n)
   request_bytes_lem (Regrade p g) h = (omega arith, All-append Byte (bytes16 p) (put g) (word_bytes p) (law.whole g h.1))
   request_bytes_lem (Link u v) h = (omega arith, All-append Byte (bytes16 u) (bytes16 v) (word_bytes u) (word_bytes v))
@@ -84,7 +84,7 @@ module _ {G : Type 0} (In : G → Type 0) (put : G → List ℕ) (get : List ℕ
   request_back Cores h = refl
   request_back (Holder k p) h = ap (λ x. Some (Holder x (word_at (framed (request_bytes put (Holder k p))) 3))) (word_back k h.0) ∙ ap (λ x. Some (Holder k x)) (word_back p h.1)
 
-  module _ (bs : List ℕ) (h : All Byte bs) (q : Request G) where
+  module _ (bs : List ℕ) (h : AllByRecursion Byte bs) (q : Request G) where
     abbrev Fits : Request G → Type 0
     Fits x = RequestFits In x × (request_bytes put x ≡ take (length bs - 1) bs)
 
@@ -97,7 +97,7 @@ module _ {G : Type 0} (In : G → Type 0) (put : G → List ℕ) (get : List ℕ
     regraded_forth : (o : Option G) → get (take size (drop 3 bs)) ≡ o → kind_in bs ≡ 2 → length bs ≡ 4 + size → regraded (word_at bs 1) o ≡ Some q → Fits q
     regraded_forth None p k l e = let z : ◌≡◌ {A = ℕ} 0 1 = cc in absurd (omega arith)
     regraded_forth (Some g) p k l e =
-        let part : All Byte (take size (drop 3 bs)) = All-take Byte size (drop 3 bs) (All-drop Byte 3 bs h) in
+        let part : AllByRecursion Byte (take size (drop 3 bs)) = All-take Byte size (drop 3 bs) (All-drop Byte 3 bs h) in
         landed Fits _ q e (((first_word, law.ranged _ g part p)), ap (λ x. 2 ∷ bytes16 (word_at bs 1) ++ x) (law.forth _ g part p) ∙ one_word_rest bs h 2 k size l)
 
     request_forth : length bs ≡ length_of size (kind_in bs) → request_of get size bs ≡ Some q → Fits q

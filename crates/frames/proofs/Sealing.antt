@@ -1,5 +1,5 @@
 -- A row of bytes with its check byte is the frame of those bytes, and its line is theirs. Assumes nothing.
-use Rattle.std.proofs.Common.{◌≡◌, ℕ, suc, ◌+◌, ◌-◌, ◌<◌, ◌≤◌, List, [], ◌∷◌, ◌++◌, length, take, drop, set, replicate, sym, refl, ap, ◌∙◌, arith}
+use Rattle.std.proofs.Common.{◌≡◌, ℕ, suc, ◌+◌, ◌-◌, ◌≤◌, List, [], ◌∷◌, ◌++◌, length, take, drop, set, replicate, sym, refl, ap, ◌∙◌, arith}
 use Rattle.std.proofs.lemmas.List.{append_assoc, append-nil, length-replicate, drop-replicate, set_at, take_all, take_at}
 use borrow.Rule.Slice.PartMut.{put_mid}
 use Rattle.grades.specs.Places.{onto}

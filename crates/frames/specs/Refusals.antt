@@ -2,7 +2,6 @@
 --     fault_number f, fault_layer f the number of the refusal f, and the layer that it comes from
 --     layer_number l               the number of the layer
 use Rattle.std.specs.Prelude.{ℕ}
-use Rattle.frames.specs.declared.fault.LineFault.{LineFault}
 use Rattle.frames.specs.declared.fault.LineFault.TheVariants.{WrongSize, NoDigit}
 use Rattle.frames.specs.declared.fault.FrameFault.{FrameFault}
 use Rattle.frames.specs.declared.fault.FrameFault.TheVariants.{Line, UnknownKind, WrongLength, WrongCheck}

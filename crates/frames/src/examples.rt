@@ -1,6 +1,6 @@
 // Example lines, each with the frame that it stands for.
 ghost use Rattle.std.specs.Prelude.{◌≡◌, true};
-ghost use Rattle.std.specs.List.{AllByRecursion as All};
+ghost use Rattle.std.specs.List.{AllByRecursion};
 ghost use Rattle.frames.specs.Examples.{Stands};
 
 #[derive(Clone, Copy)]
@@ -96,7 +96,7 @@ pub static EXAMPLES: [Example; 13] = [
 
 // Each line stands for its frame.
 pub fn examples_stand() -> u8
-    ensures { All Stands EXAMPLES }
+    ensures { AllByRecursion Stands EXAMPLES }
 {
     0
 }

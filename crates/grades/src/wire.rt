@@ -1,6 +1,6 @@
 // A grade as bytes, the high byte first.
 ghost use Rattle.std.specs.Prelude.{◌≡◌, ℕ, ◌<◌, ◌≤◌, true, List, length, is_some, Some, Option};
-ghost use Rattle.std.specs.List.{AllByRecursion as All};
+ghost use Rattle.std.specs.List.{AllByRecursion};
 ghost use Rattle.grades.specs.Places.{Byte, onto};
 
 use crate::grade::Grade;
@@ -37,13 +37,13 @@ pub trait Wire: Grade {
 
     ghost sized: { (g : Self) → length (bytes_of g) ≡ size };
 
-    ghost whole: { (g : Self) → InRange g → All Byte (bytes_of g) };
+    ghost whole: { (g : Self) → InRange g → AllByRecursion Byte (bytes_of g) };
 
     ghost back: { (g : Self) → InRange g → grade_of (bytes_of g) ≡ Some g };
 
-    ghost forth: { (bytes : List ℕ) (g : Self) → All Byte bytes → grade_of bytes ≡ Some g → bytes_of g ≡ bytes };
+    ghost forth: { (bytes : List ℕ) (g : Self) → AllByRecursion Byte bytes → grade_of bytes ≡ Some g → bytes_of g ≡ bytes };
 
-    ghost ranged: { (bytes : List ℕ) (g : Self) → All Byte bytes → grade_of bytes ≡ Some g → InRange g };
+    ghost ranged: { (bytes : List ℕ) (g : Self) → AllByRecursion Byte bytes → grade_of bytes ≡ Some g → InRange g };
 
     ghost known: { (bytes : List ℕ) → length bytes ≡ size → is_some (grade_of bytes) ≡ true };
 }

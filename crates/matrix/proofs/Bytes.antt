@@ -1,7 +1,7 @@
 -- The bits of a number that is made of bytes, and the list of those that are set. Assumes nothing.
 use Rattle.std.proofs.Common.{◌≡◌, ℕ, zero, suc, ◌+◌, ◌-◌, ◌*◌, ◌/◌, ◌%◌, ◌^◌, ◌<◌, ◌≤◌, Bool, false, cond, eqb, List, [], ◌∷◌, get_or, filter, sym, refl, ap, ◌∙◌, ap₂, inl, inr, arith, pow_pos}
 use native.Mathlib.Nat.{div-eq_of_lt}
-use Rattle.std.specs.List.{range_with_len, AllByRecursion as All}
+use Rattle.std.specs.List.{range_with_len, AllByRecursion}
 use Rattle.std.proofs.lemmas.Nat.{shr-shr}
 use Rattle.std.proofs.lemmas.Bool.{cases_lt}
 use Rattle.grades.specs.Places.{Byte}
@@ -30,7 +30,7 @@ high_bit b x j h l =
     let d : (b + 256 * x) / 2 ^ 8 ≡ x = omega arith in
     ap (λ t. eqb (t % 2) 1) (ap (λ t. (b + 256 * x) / 2 ^ t) e ∙ sym (shr-shr (b + 256 * x) 8 (j - 8)) ∙ ap (λ t. t / 2 ^ (j - 8)) d)
 
-pub word_bit : (bs : List ℕ) (j : ℕ) → All Byte bs → bit_of (word_of bs) j ≡ bit_of (get_or bs (j / 8) 0) (j % 8)
+pub word_bit : (bs : List ℕ) (j : ℕ) → AllByRecursion Byte bs → bit_of (word_of bs) j ≡ bit_of (get_or bs (j / 8) 0) (j % 8)
 word_bit [] j h = no_bit j ∙ sym (no_bit (j % 8))
 word_bit (b ∷ bs) j h = elim (cases_lt j 8) [
   | inl l ↦ (

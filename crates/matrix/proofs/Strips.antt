@@ -1,6 +1,6 @@
 -- A row of the square, read in strips of 64 persons. Assumes nothing.
 use Rattle.std.proofs.Common.{◌≡◌, ℕ, zero, suc, ◌+◌, ◌*◌, ◌/◌, ◌%◌, ◌<◌, false, cond, ◌&&◌, ltb, leb, List, [], ◌∷◌, get_or, filter, sym, refl, ap, ◌∙◌, ap₂, inl, inr, arith}
-use Rattle.std.specs.List.{range_with_len, AllByRecursion as All}
+use Rattle.std.specs.List.{range_with_len, AllByRecursion}
 use Rattle.std.proofs.lemmas.Bool.{cases_lt, lt-ltb, le-leb, le-ltb, and_from, cond_both, cond-true, cond-false}
 use Rattle.grades.specs.Places.{Byte}
 use Rattle.matrix.specs.Bits.{stride, place, bit_of, bit_at, spare_at}
@@ -35,7 +35,7 @@ module _ (n : ℕ) (bits : List ℕ) (u i : ℕ) (person : u < n) (clear : (x y 
   byte : (k : ℕ) → k < 8 → get_or bs k 0 < 256
   byte k h = omega (arith, read k h, cond_both (ltb (u * stride n + 8 * i + k) (u * stride n + stride n)) (get_or bits (u * stride n + 8 * i + k) 0) 0 (λ x. x < 256) (λ _. small (u * stride n + 8 * i + k)) (λ _. omega arith))
 
-  bytes : All Byte (eight_of bs)
+  bytes : AllByRecursion Byte (eight_of bs)
   bytes = (byte 0 (omega arith), (byte 1 (omega arith), (byte 2 (omega arith), (byte 3 (omega arith), (byte 4 (omega arith), (byte 5 (omega arith), (byte 6 (omega arith), (byte 7 (omega arith), tt))))))))
 
   -- the bit j of the strip is that of the person 64 * i + j

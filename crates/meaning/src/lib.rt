@@ -9,8 +9,8 @@ use networks::Network;
 
 // Nothing that is proved of lawful graphs and strict orders is about nothing.
 pub fn networks_are_lawful<N: Network>(net: &N) -> u8
-    ensures graph { Lawful (graph_of (N.Network.meaning net.now)) }
-    ensures order { StrictOrder (order_of Grade-as-Grade.at_most (N.Network.meaning net.now)) }
+    ensures graph { Lawful (graph_of (N.meaning net.now)) }
+    ensures order { StrictOrder (order_of N.Grade.at_most (N.meaning net.now)) }
 {
     0
 }

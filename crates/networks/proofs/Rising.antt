@@ -1,6 +1,6 @@
 -- The numbers below n that pass a test, in order: what neighbours are. Assumes nothing.
 use Rattle.std.proofs.Common.{◌≡◌, ℕ, zero, suc, ◌+◌, ◌-◌, ◌<◌, ◌≤◌, Bool, true, false, cond, List, [], ◌∷◌, ◌++◌, length, get_or, Some, None, filter, Option, sym, refl, ap, ◌∙◌, inl, inr, arith}
-use Rattle.std.specs.List.{slice_get, range_with_len, AllByRecursion as All}
+use Rattle.std.specs.List.{slice_get, range_with_len, AllByRecursion}
 use Rattle.std.proofs.lemmas.List.FromFn.{map-range_with_len_more}
 use Rattle.std.proofs.lemmas.List.Elements.{filter-append}
 use Rattle.std.proofs.ByRecursion.{All-get_or, all_kept_by}
@@ -8,11 +8,11 @@ use Rattle.std.proofs.lemmas.List.{append-nil, length-append, map-id}
 use Rattle.std.proofs.lemmas.Option.{slice_get-get_or}
 use Rattle.std.proofs.lemmas.Bool.{cases_eq, cases_lt}
 
-all_counting : (a n m : ℕ) → a + n ≤ m → All (λ x. x < m) (range_with_len a n)
+all_counting : (a n m : ℕ) → a + n ≤ m → AllByRecursion (λ x. x < m) (range_with_len a n)
 all_counting a zero m h = tt
 all_counting a (suc n) m h = (omega arith, all_counting (a + 1) n m (omega arith))
 
-pub all_kept : (p : ℕ → Bool) (n : ℕ) → All (λ x. x < n) (filter p (range_with_len 0 n))
+pub all_kept : (p : ℕ → Bool) (n : ℕ) → AllByRecursion (λ x. x < n) (filter p (range_with_len 0 n))
 all_kept p n = all_kept_by p (λ x. x < n) (range_with_len 0 n) (all_counting 0 n n (omega arith))
 
 -- each of them is below n

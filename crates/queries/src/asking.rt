@@ -13,7 +13,7 @@ impl Query {
     // The choice is 0 for every circle, 1 for the innermost ones.
     pub fn new(k: u32, r: u32, choice: u32) -> Result<Query, CallFault>
         ensures cases { fault_of result ≡ query_fault k r choice }
-        ensures* asks { λ q. ⌜ IfOk q (λ q. Asks q k r choice) ⌝ }
+        ensures asks { IfOk result (λ q. Asks q k r choice) }
     {
         if k < 1 || k > MOST_LINKS || r < 1 || r > MOST_CIRCLES || choice > 1 {
             return Err(CallFault::BadQuery);

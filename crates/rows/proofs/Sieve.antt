@@ -1,6 +1,6 @@
 -- The numbers below n that pass a test, in order. Assumes nothing.
 use Rattle.std.proofs.Common.{◌≡◌, ℕ, zero, suc, ◌+◌, ◌-◌, ◌<◌, ◌≤◌, Bool, true, false, cond, ◌&&◌, ◌||◌, eqb, ltb, List, [], ◌∷◌, ◌++◌, filter, sym, refl, ap, ◌∙◌, ap₂, inl, inr, zero-add, arith}
-use Rattle.std.specs.List.{range_with_len, AllByRecursion as All}
+use Rattle.std.specs.List.{range_with_len, AllByRecursion}
 use Rattle.std.proofs.lemmas.List.FromFn.{length-range_with_len, get_or-range_with_len}
 use Rattle.std.proofs.ByRecursion.{All-get_or, all_kept_by, All-weaker}
 use Rattle.std.proofs.lemmas.Bool.{cases_lt, lt-ltb, le-ltb, eqb-true, and_right}
@@ -9,7 +9,7 @@ use Rattle.rows.specs.Row.{has, Rising}
 use Rattle.rows.proofs.Standing.{has_at, has_none}
 
 -- the numbers from a on
-pub all_between : (a m : ℕ) → All (λ x. (a ≤ x) × (x < a + m)) (range_with_len a m)
+pub all_between : (a m : ℕ) → AllByRecursion (λ x. (a ≤ x) × (x < a + m)) (range_with_len a m)
 all_between a zero = tt
 all_between a (suc m) = (
   (omega arith, omega arith),
@@ -46,19 +46,19 @@ has_kept_by p (x ∷ xs) v = has_cond (p x) v x (filter p xs)
 pub has_kept : (p : ℕ → Bool) (n v : ℕ) → has v (filter p (range_with_len 0 n)) ≡ (ltb v n && p v)
 has_kept p n v = has_kept_by p (range_with_len 0 n) v ∙ ap (λ t. t && p v) (has_counting n v)
 
-pub kept_agree : (p q : ℕ → Bool) (xs : List ℕ) → All (λ x. p x ≡ q x) xs → filter p xs ≡ filter q xs
+pub kept_agree : (p q : ℕ → Bool) (xs : List ℕ) → AllByRecursion (λ x. p x ≡ q x) xs → filter p xs ≡ filter q xs
 kept_agree p q [] h = refl
 kept_agree p q (x ∷ xs) (e, h) = ap₂ (λ b t. cond b (x ∷ t) t) e (kept_agree p q xs h)
 
-pub kept_all : (p : ℕ → Bool) (xs : List ℕ) → All (λ x. p x ≡ true) xs → filter p xs ≡ xs
+pub kept_all : (p : ℕ → Bool) (xs : List ℕ) → AllByRecursion (λ x. p x ≡ true) xs → filter p xs ≡ xs
 kept_all p [] h = refl
 kept_all p (x ∷ xs) (e, h) = ap₂ (λ b t. cond b (x ∷ t) t) e (kept_all p xs h)
 
-pub kept_none : (p : ℕ → Bool) (xs : List ℕ) → All (λ x. p x ≡ false) xs → filter p xs ≡ []
+pub kept_none : (p : ℕ → Bool) (xs : List ℕ) → AllByRecursion (λ x. p x ≡ false) xs → filter p xs ≡ []
 kept_none p [] h = refl
 kept_none p (x ∷ xs) (e, h) = ap₂ (λ b t. cond b (x ∷ t) t) e (kept_none p xs h)
 
-rising_step : (b : Bool) (a : ℕ) (xs : List ℕ) → All (λ x. a < x) xs → Rising xs → Rising (cond b (a ∷ xs) xs)
+rising_step : (b : Bool) (a : ℕ) (xs : List ℕ) → AllByRecursion (λ x. a < x) xs → Rising xs → Rising (cond b (a ∷ xs) xs)
 rising_step true a xs all r zero zero h l = absurd (omega arith)
 rising_step true a xs all r zero (suc j) h l = All-get_or (λ x. a < x) xs j 0 (omega arith) all
 rising_step true a xs all r (suc i) zero h l = absurd (omega arith)

@@ -1,6 +1,6 @@
 -- A tidy row stays tidy when a number enters or leaves. Assumes nothing.
 use Rattle.std.proofs.Common.{◌≡◌, ℕ, suc, ◌+◌, ◌-◌, ◌<◌, ◌≤◌, Bool, true, false, cond, not, ◌&&◌, ◌||◌, eqb, ltb, List, [], ◌∷◌, ◌++◌, length, drop, filter, sym, refl, ap, ◌∙◌, ap₂, inl, inr, arith}
-use Rattle.std.specs.List.{range_with_len, insert, remove, AllByRecursion as All}
+use Rattle.std.specs.List.{range_with_len, insert, remove, AllByRecursion}
 use Rattle.std.proofs.lemmas.List.Elements.{filter-append}
 use Rattle.std.proofs.ByRecursion.{all_kept_by, All-weaker}
 use Rattle.std.proofs.lemmas.List.{append-nil, append_assoc, drop_at, take_at, length-append}
@@ -40,15 +40,15 @@ module _ (n v : ℕ) (inside : v < n) where
     agree_high = kept_agree p q above
         (All-weaker (λ x. (v + 1 ≤ x) × (x < v + 1 + (n - (v + 1)))) (λ x. p x ≡ q x) (λ w h. same w (λ e. omega (arith, h.0))) above (all_between (v + 1) (n - (v + 1))))
 
-  all_low : (p : ℕ → Bool) → All (λ x. ltb x v ≡ true) (filter p (range_with_len 0 v))
+  all_low : (p : ℕ → Bool) → AllByRecursion (λ x. ltb x v ≡ true) (filter p (range_with_len 0 v))
   all_low p = all_kept_by p (λ x. ltb x v ≡ true) (range_with_len 0 v)
       (All-weaker (λ x. (0 ≤ x) × (x < 0 + v)) (λ x. ltb x v ≡ true) (λ w h. lt-ltb w v (omega (arith, h.1))) (range_with_len 0 v) (all_between 0 v))
 
-  all_high : (p : ℕ → Bool) → All (λ x. ltb x v ≡ false) (filter p above)
+  all_high : (p : ℕ → Bool) → AllByRecursion (λ x. ltb x v ≡ false) (filter p above)
   all_high p = all_kept_by p (λ x. ltb x v ≡ false) above
       (All-weaker (λ x. (v + 1 ≤ x) × (x < v + 1 + (n - (v + 1)))) (λ x. ltb x v ≡ false) (λ w h. le-ltb w v (omega (arith, h.0))) above (all_between (v + 1) (n - (v + 1))))
 
-  place_between : (low high : List ℕ) → All (λ x. ltb x v ≡ true) low → All (λ x. ltb x v ≡ false) high → place_of v (low ++ high) ≡ length low
+  place_between : (low high : List ℕ) → AllByRecursion (λ x. ltb x v ≡ true) low → AllByRecursion (λ x. ltb x v ≡ false) high → place_of v (low ++ high) ≡ length low
   place_between low high a b = ap length
       (filter-append (λ x. ltb x v) low high ∙ ap₂ (λ xs ys. xs ++ ys) (kept_all (λ x. ltb x v) low a) (kept_none (λ x. ltb x v) high b) ∙ append-nil low)
 

@@ -1,7 +1,7 @@
 -- The listing with its members, from the names, where no two persons are level.
 use Rattle.std.proofs.Common.{◌≡◌, ℕ, ◌-◌, ◌<◌, true, List, [], ◌∷◌, map, length, drop, filter, sym, refl, ap, ◌∙◌, subst, inl, inr, arith}
 use mathlib.Core.List.{map-map}
-use Rattle.std.specs.List.{AllByRecursion as All}
+use Rattle.std.specs.List.{AllByRecursion}
 use Rattle.std.proofs.ByRecursion.{All-map, All-weaker}
 use Rattle.std.proofs.lemmas.List.{drop-map, length-map}
 use Rattle.theory.specs.Circles.{Circle, LevelCircle}
@@ -87,7 +87,7 @@ module _ (g : Graph) (o : Lawful g) (le : Relation) (t : Order le) (str : Strict
           ];
         }
 
-    refilled : (es : List Entry) → All (Entered g le k ch) es → es ≡ map (entry g le k) (map (λ e. e.0) es)
+    refilled : (es : List Entry) → AllByRecursion (Entered g le k ch) es → es ≡ map (entry g le k) (map (λ e. e.0) es)
     refilled [] a = refl
     refilled (e ∷ es) a = let p : e ≡ entry g le k e.0 = (entered_wanted e a.0).1 in let q : es ≡ map (entry g le k) (map (λ e. e.0) es) = refilled es a.1 in cc
 
@@ -117,7 +117,7 @@ peeling_lists g o le t str k r = ap (λ xs. map (entry g le k) (drop (length xs 
     xs : List ℕ
     xs = filter (is_name g le (by_number le) k) (ranked (by_number le) g.size)
 
-    met : All (λ e. Circle g le k e.1 × Weakest le e.1 e.0) es × Pairwise (λ e f. Below le e.0 f.0) es × ((S : Set) (w : ℕ) → Circle g le k S → Weakest le S w → (w, S) among es)
+    met : AllByRecursion (λ e. Circle g le k e.1 × Weakest le e.1 e.0) es × Pairwise (λ e f. Below le e.0 f.0) es × ((S : Set) (w : ℕ) → Circle g le k S → Weakest le S w → (w, S) among es)
     met = peeling_meets_circles_once g o le t str k
 
     there : (v : ℕ) → v among xs → v among keys

@@ -1,6 +1,6 @@
 -- The names of the listing are right, and the only ones that are.
 use Rattle.std.proofs.Common.{◌≡◌, ℕ, suc, ◌-◌, ◌<◌, ◌≤◌, true, ◌⊎◌, List, ◌∷◌, length, drop, filter, inl, inr, arith}
-use Rattle.std.specs.List.{AllByRecursion as All}
+use Rattle.std.specs.List.{AllByRecursion}
 use Rattle.std.proofs.ByRecursion.{All-drop, All-weaker, kept_by_passes}
 use Rattle.std.proofs.lemmas.List.{length-drop}
 use Rattle.std.proofs.lemmas.Bool.{both_ways, cases_lt}
@@ -19,7 +19,7 @@ module _ (g : Graph) (o : Lawful g) (le : Relation) (t : Order le) (wk : Relatio
     pinned_part : (ws us : List ℕ) → LevelLists g le wk k r ch ws → LevelLists g le wk k r ch us → (v : ℕ) → v among ws → v among us
     pinned_part ws us a b v m = go (b.strongest v (all_among _ ws v a.each m))
       where
-        go : (v among us) ⊎ ((length us ≡ r) × All (λ u. wk v u ≡ true) us) → v among us
+        go : (v among us) ⊎ ((length us ≡ r) × AllByRecursion (λ u. wk v u ≡ true) us) → v among us
         go (inl n) = n
         go (inr (e, al)) =
             let fits : suc (length us) ≤ length ws = rising_fits wk rk (v ∷ us) ws (al, b.rising) a.rising (λ u h. elim h [ inl s ↦ rw s m | inr n ↦ has u n ]) in
@@ -54,7 +54,7 @@ module _ (g : Graph) (o : Lawful g) (le : Relation) (t : Order le) (wk : Relatio
         person every w (S, c, n) = c.group.inside w n.0
         person innermost w (S, c, n) = c.0.group.inside w n.0
 
-        strong : (w : ℕ) → Wanted g le wk k ch w → (r < length xs) ⊎ (length xs ≤ r) → (w among drop (length xs - r) xs) ⊎ ((length (drop (length xs - r) xs) ≡ r) × All (λ v. wk w v ≡ true) (drop (length xs - r) xs))
+        strong : (w : ℕ) → Wanted g le wk k ch w → (r < length xs) ⊎ (length xs ≤ r) → (w among drop (length xs - r) xs) ⊎ ((length (drop (length xs - r) xs) ≡ r) × AllByRecursion (λ v. wk w v ≡ true) (drop (length xs - r) xs))
         strong w want c = elim c [
           | inl l ↦ elim (among_drop _ (length xs - r) xs w rise has) [ inl m ↦ inl m | inr a ↦ inr (omega (arith, length-drop (length xs - r) xs), a) ]
           | inr l ↦ let z : length xs - r ≡ 0 = omega arith in inl (rw z has)

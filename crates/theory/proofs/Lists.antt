@@ -1,7 +1,7 @@
 -- Elements of lists: what is kept, dropped and mapped, and pairs in order.
 use Rattle.std.proofs.Common.{◌≡◌, ℕ, zero, suc, ◌+◌, ◌<◌, Bool, true, false, cond, not, ◌&&◌, eqb, ◌≢◌, ◌⊎◌, List, [], ◌∷◌, ◌++◌, map, drop, count_by, filter, sym, refl, ap, ◌∙◌, subst, inl, inr, arith}
 use mathlib.Core.Bool.{and-false, and-true}
-use Rattle.std.specs.List.{AllByRecursion as All}
+use Rattle.std.specs.List.{AllByRecursion}
 use Rattle.std.proofs.ByRecursion.{All-drop, all_kept_by, All-map, All-weaker}
 use Rattle.std.proofs.lemmas.List.Sums.{sum_by-cons}
 use Rattle.std.proofs.lemmas.Bool.{and_parts, both_ways, eq-eqb, eqb-true, or_cases, or_left, or_right}
@@ -9,7 +9,7 @@ use Rattle.theory.specs.Sets.{◌among◌, any_of, bit, count, has, Pairwise, Se
 use Rattle.theory.proofs.Counting.{count_none, count_same, count_split}
 use Rattle.theory.proofs.Sets.{without_from, without_in}
 
-pub among_drop : {A : Type 0} (R : A → A → Type 0) (n : ℕ) (xs : List A) (x : A) → Pairwise R xs → x among xs → (x among drop n xs) ⊎ All (R x) (drop n xs)
+pub among_drop : {A : Type 0} (R : A → A → Type 0) (n : ℕ) (xs : List A) (x : A) → Pairwise R xs → x among xs → (x among drop n xs) ⊎ AllByRecursion (R x) (drop n xs)
 among_drop R zero xs x p m = inl m
 among_drop R (suc n) [] x p m = absurd m
 among_drop R (suc n) (y ∷ ys) x p (inl e) = inr (rw e (All-drop (R y) n ys p.0))
@@ -37,12 +37,12 @@ pub pairwise_map : {A B : Type 0} (R : A → A → Type 0) (R' : B → B → Typ
 pairwise_map R R' f h [] p = tt
 pairwise_map R R' f h (x ∷ xs) p = (All-map (R' (f x)) f xs (All-weaker _ _ (λ y r. h x y r) xs p.0), pairwise_map R R' f h xs p.1)
 
-pub all_among : {A : Type 0} (P : A → Type 0) (xs : List A) (x : A) → All P xs → x among xs → P x
+pub all_among : {A : Type 0} (P : A → Type 0) (xs : List A) (x : A) → AllByRecursion P xs → x among xs → P x
 all_among P [] x a m = absurd m
 all_among P (y ∷ ys) x a (inl e) = rw e a.0
 all_among P (y ∷ ys) x a (inr m) = all_among P ys x a.1 m
 
-pub all_from : {A : Type 0} (P : A → Type 0) (xs : List A) → ((x : A) → x among xs → P x) → All P xs
+pub all_from : {A : Type 0} (P : A → Type 0) (xs : List A) → ((x : A) → x among xs → P x) → AllByRecursion P xs
 all_from P [] f = tt
 all_from P (x ∷ xs) f = (f x (inl refl), all_from P xs (λ y m. f y (inr m)))
 
@@ -53,7 +53,7 @@ pairwise_same R one_way [] (y ∷ ys) p q f h = absurd (h y (inl refl))
 pairwise_same R one_way (x ∷ xs) [] p q f h = absurd (f x (inl refl))
 pairwise_same R one_way (x ∷ xs) (y ∷ ys) p q f h = go (f x (inl refl)) (h y (inl refl)) (pairwise_same R one_way xs ys p.1 q.1)
   where
-    tail : (a b : _) (cs bs : List _) → a ≡ b → All (R a) cs → ((v : _) → v among (a ∷ cs) → v among (b ∷ bs)) → (v : _) → v among cs → v among bs
+    tail : (a b : _) (cs bs : List _) → a ≡ b → AllByRecursion (R a) cs → ((v : _) → v among (a ∷ cs) → v among (b ∷ bs)) → (v : _) → v among cs → v among bs
     tail a b cs bs e al k v m = elim (k v (inr m)) [
       | inl s ↦ absurd (let self : R a a = subst (R a) (s ∙ sym e) (all_among (R a) cs v al m) in one_way a a self self)
       | inr n ↦ n
@@ -130,7 +130,7 @@ pub map_same : {A B : Type 0} (f h : A → B) (xs : List A) → ((x : A) → x a
 map_same f h [] e = refl
 map_same f h (x ∷ xs) e = let a : f x ≡ h x = e x (inl refl) in let b : map f xs ≡ map h xs = map_same f h xs (λ y m. e y (inr m)) in cc
 
-all_both : {A : Type 0} (P Q : A → Type 0) (xs : List A) → All P xs → All Q xs → All (λ x. P x × Q x) xs
+all_both : {A : Type 0} (P Q : A → Type 0) (xs : List A) → AllByRecursion P xs → AllByRecursion Q xs → AllByRecursion (λ x. P x × Q x) xs
 all_both P Q [] a b = tt
 all_both P Q (x ∷ xs) a b = ((a.0, b.0), all_both P Q xs a.1 b.1)
 
@@ -152,7 +152,7 @@ pub bit_cond : (b : Bool) → bit b ≡ cond b 1 0
 bit_cond true = refl
 bit_cond false = refl
 
-pub count_by_list : (p q : Set) (n : ℕ) (vs : List ℕ) → Pairwise (λ v w. v ≢ w) vs → ((v : ℕ) → v < n → v ∈ q → v among vs) → All (λ v. (v < n) × (v ∈ q)) vs → count (λ v. q v && p v) n ≡ count_by p vs
+pub count_by_list : (p q : Set) (n : ℕ) (vs : List ℕ) → Pairwise (λ v w. v ≢ w) vs → ((v : ℕ) → v < n → v ∈ q → v among vs) → AllByRecursion (λ v. (v < n) × (v ∈ q)) vs → count (λ v. q v && p v) n ≡ count_by p vs
 unfolding without
 count_by_list p q n [] d f a = count_none (λ v. q v && p v) n (λ v l m. f v l (and_parts (q v) (p v) m).0)
 count_by_list p q n (x ∷ xs) d f a =

@@ -1,7 +1,7 @@
 -- Peeling meets the circles, each once, rising.
 use Rattle.std.proofs.Common.{◌≡◌, ℕ, zero, suc, ◌≤◌, Bool, true, false, not, ◌≢◌, ◌⊎◌, List, [], ◌∷◌, sym, refl, ap, ◌∙◌, inl, inr, arith}
 use mathlib.Core.Option.{none, Option, some}
-use Rattle.std.specs.List.{AllByRecursion as All}
+use Rattle.std.specs.List.{AllByRecursion}
 use Rattle.std.proofs.ByRecursion.{All-weaker}
 use Rattle.std.proofs.lemmas.Bool.{both_ways, cases_eq, not_from_false, not-true}
 use Rattle.theory.specs.Circles.{Circle}
@@ -43,7 +43,7 @@ module _ (le : Relation) (t : Order le) where
 
 -- what peeling a set that is the core of an upward set gives
 record Peeled (g : Graph) (le : Relation) (k : ℕ) (B : Set) (es : List (ℕ × Set)) : Type 0 where
-  each : All (λ e. (e.0 ∈ B) × Circle g le k e.1 × Weakest le e.1 e.0) es
+  each : AllByRecursion (λ e. (e.0 ∈ B) × Circle g le k e.1 × Weakest le e.1 e.0) es
   rising : Pairwise (λ e f. Below le e.0 f.0) es
   complete : (S : Set) (w : ℕ) → Circle g le k S → Weakest le S w → w ∈ B → (w, S) among es
 

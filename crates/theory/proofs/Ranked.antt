@@ -1,6 +1,6 @@
 -- Lists of persons that rise by a strict order: all persons, and lists with the same members.
 use Rattle.std.proofs.Common.{◌≡◌, ℕ, zero, suc, ◌<◌, ◌≤◌, Bool, true, false, cond, ◌≢◌, List, [], ◌∷◌, length, sym, refl, ◌∙◌, inl, inr, arith}
-use Rattle.std.specs.List.{AllByRecursion as All}
+use Rattle.std.specs.List.{AllByRecursion}
 use Rattle.std.proofs.ByRecursion.{All-weaker}
 use Rattle.std.proofs.lemmas.Bool.{both_ways}
 use Rattle.theory.specs.Listing.{insert, ranked}
@@ -13,12 +13,12 @@ module _ {le : Relation} (wk : Relation) (rk : Ranking le wk) where
   pub never : (u : ℕ) → wk u u ≡ true → ⊥
   never u h = both_ways (wk u u) (rk.one_way u u h) h
 
-  insert_all : (P : ℕ → Type 0) (x : ℕ) (ys : List ℕ) → P x → All P ys → All P (insert wk x ys)
+  insert_all : (P : ℕ → Type 0) (x : ℕ) (ys : List ℕ) → P x → AllByRecursion P ys → AllByRecursion P (insert wk x ys)
   unfolding insert
   insert_all P x [] h a = (h, tt)
   insert_all P x (y ∷ ys) h a = go (wk x y) (insert_all P x ys h a.1)
     where
-      go : (b : Bool) → All P (insert wk x ys) → All P (cond b (x ∷ y ∷ ys) (y ∷ insert wk x ys))
+      go : (b : Bool) → AllByRecursion P (insert wk x ys) → AllByRecursion P (cond b (x ∷ y ∷ ys) (y ∷ insert wk x ys))
       go true ih = (h, a)
       go false ih = (a.0, ih)
 
@@ -31,7 +31,7 @@ module _ {le : Relation} (wk : Relation) (rk : Ranking le wk) where
       go true ih = (inl refl, λ v m. inr m)
       go false ih = (inr ih.0, λ v m. elim m [ inl e ↦ inl e | inr n ↦ inr (ih.1 v n) ])
 
-  insert_rising : (x : ℕ) (ys : List ℕ) → All (λ y. x ≢ y) ys → Pairwise (λ u v. wk u v ≡ true) ys → Pairwise (λ u v. wk u v ≡ true) (insert wk x ys)
+  insert_rising : (x : ℕ) (ys : List ℕ) → AllByRecursion (λ y. x ≢ y) ys → Pairwise (λ u v. wk u v ≡ true) ys → Pairwise (λ u v. wk u v ≡ true) (insert wk x ys)
   unfolding insert
   insert_rising x [] d p = (tt, tt)
   insert_rising x (y ∷ ys) d p = go (wk x y) refl (insert_rising x ys d.1 p.1)
@@ -42,7 +42,7 @@ module _ {le : Relation} (wk : Relation) (rk : Ranking le wk) where
           let back : wk y x ≡ true = elim (rk.either x y d.0) [ inl t ↦ absurd (both_ways (wk x y) h t) | inr t ↦ t ] in
           (insert_all (λ z. wk y z ≡ true) x ys back p.0, ih)
 
-  ranked_below : (n : ℕ) → All (λ v. v < n) (ranked wk n)
+  ranked_below : (n : ℕ) → AllByRecursion (λ v. v < n) (ranked wk n)
   unfolding ranked
   ranked_below zero = tt
   ranked_below (suc n) = insert_all (λ v. v < suc n) n (ranked wk n) (omega arith) (All-weaker _ _ (λ v l. omega arith) (ranked wk n) (ranked_below n))

@@ -2,11 +2,11 @@
 --     IsCore g u c                c is the core number of u
 --     everyone g                  all persons
 --     core g k X                  the k-core of X: what is left of X once nobody has fewer than k neighbours left
---     core_number g u              in how many of the cores for 1, 2, .. the person u is
+--     core_number g u             in how many of the cores for 1, 2, .. the person u is
 --     component g X w             those of X to whom a walk inside X leads from w
 --     above le w                  those at least as strong as w
---     circle_at g le k w           the component of w in the k-core of those at least as strong as w
-use Rattle.std.specs.Prelude.{ℕ, suc, ◌≤◌, Bool, ◌&&◌, ◌||◌, ◌==◌, nat_le, nat_lt}
+--     circle_at g le k w          the component of w in the k-core of those at least as strong as w
+use Rattle.std.specs.Prelude.{ℕ, suc, ◌≤◌, ◌&&◌, ◌||◌, ◌==◌, nat_le, nat_lt}
 use Rattle.theory.specs.Sets.{Set, Relation, ◌∈◌, count, any, times, below}
 use Rattle.theory.specs.Graphs.{Graph, Inside, Tight, degree}
 

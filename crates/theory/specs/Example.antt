@@ -1,9 +1,9 @@
 -- Worked small networks: the bow tie, and two pairs. Assumes nothing.
---     bow_tie, by_points            five persons, two triangles with one person in common; their order by points
---     pairs, by_marks              four persons, linked two by two; their order by points
+--     bow_tie, by_points          five persons, two triangles with one person in common; their order by points
+--     pairs, by_marks             four persons, linked two by two; their order by points
 --     these vs                    the persons of a list, as a set
 --     computed                    a proof that names it on its `unfolding` line computes with all of the theory
-use Rattle.std.specs.Prelude.{◌≡◌, ℕ, ◌<◌, List, [], ◌∷◌, slice_index}
+use Rattle.std.specs.Prelude.{ℕ, ◌<◌, List, [], ◌∷◌, slice_index}
 use Rattle.theory.specs.Sets.{Set, Relation, ◌∈◌, without, minus, both_of, count, total, any, times, below, any_of, has}
 use Rattle.theory.specs.Graphs.{Graph, Tight, degree, links, from_pairs}
 use Rattle.theory.specs.Orders.{by_grade, by_number, not_after, tie_broken, weakest}

@@ -7,7 +7,7 @@
 --     Walk g S u w                a walk by links from u to w that stays in S
 --     Connected g S               between any two members of S there is a walk that stays in S
 --     links g                     the number of linked pairs
---     from_pairs n ps              the graph of n persons with the links of a list
+--     from_pairs n ps             the graph of n persons with the links of a list
 use Rattle.std.specs.Prelude.{◌≡◌, ℕ, ◌<◌, ◌≤◌, Bool, true, false, not, ◌&&◌, ◌||◌, List, [], ◌∷◌, ◌==◌, nat_lt}
 use Rattle.theory.specs.Sets.{Set, Relation, ◌∈◌, count, total}
 

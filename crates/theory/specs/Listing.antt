@@ -9,8 +9,8 @@
 --     LevelLists g le weaker k r choice ws   ws are the names of the listing, where persons may be level
 --     names g le weaker k r choice      the names of the listing, as a function
 --     listing g le k r choice     the listing, as a function
-use Rattle.std.specs.Prelude.{◌≡◌, ℕ, zero, suc, ◌-◌, ◌≤◌, Bool, true, false, cond, not, ◌&&◌, ◌⊎◌, List, [], ◌∷◌, map, length, drop, filter, ◌==◌}
-use Rattle.std.specs.List.{AllByRecursion as All}
+use Rattle.std.specs.Prelude.{◌≡◌, ℕ, zero, suc, ◌-◌, ◌≤◌, Bool, true, cond, not, ◌&&◌, ◌⊎◌, List, [], ◌∷◌, map, length, drop, filter, ◌==◌}
+use Rattle.std.specs.List.{AllByRecursion}
 use Rattle.theory.specs.Sets.{Set, Relation, ◌∈◌, any, ◌among◌, Pairwise, members, ListOf}
 use Rattle.theory.specs.Graphs.{Graph}
 use Rattle.theory.specs.Orders.{Below, Weakest, Named, by_number}
@@ -26,10 +26,10 @@ Chosen IsCircle innermost S = IsCircle S × Innermost IsCircle S
 
 -- who is wanted and left out is weaker than all that are there, and then r are there
 pub record Strongest {A : Type 0} (Wanted : A → Type 0) (Weaker : A → A → Type 0) (r : ℕ) (xs : List A) : Type 0 where
-  pub each : All Wanted xs
+  pub each : AllByRecursion Wanted xs
   pub rising : Pairwise Weaker xs
   pub few : length xs ≤ r
-  pub strongest : (x : A) → Wanted x → (x among xs) ⊎ ((length xs ≡ r) × All (Weaker x) xs)
+  pub strongest : (x : A) → Wanted x → (x among xs) ⊎ ((length xs ≡ r) × AllByRecursion (Weaker x) xs)
 
 abbrev pub Entry : Type 0
 Entry = ℕ × List ℕ

@@ -7,7 +7,7 @@
 --     Degree-falls-by-one         one member less is one neighbour less, for the neighbours of that member
 --     Degree-by-list              the degree is a count over the list of neighbours
 use Rattle.std.specs.Prelude.{◌≡◌, ℕ, suc, ◌+◌, ◌<◌, ◌≤◌, true, ◌≢◌, List, count_by}
-use Rattle.std.specs.List.{AllByRecursion as All}
+use Rattle.std.specs.List.{AllByRecursion}
 use Rattle.theory.specs.Sets.{Set, ◌∈◌, ◌⊆◌, without, bit, ◌among◌, Pairwise}
 use Rattle.theory.specs.Graphs.{Graph, Lawful, Inside, Tight, Walk, degree}
 use Rattle.theory.specs.Cores.{everyone, core, core_number, component}
@@ -40,5 +40,5 @@ Degree-falls-by-one = (g : Graph) (S : Set) (w u : ℕ) → w < g.size → w ∈
 
 abbrev pub Degree-by-list : Type 0
 Degree-by-list =
-    (g : Graph) → Lawful g → (u : ℕ) (vs : List ℕ) → Pairwise (λ v w. v ≢ w) vs → ((v : ℕ) → g.linked u v ≡ true → v among vs) → All (λ v. g.linked u v ≡ true) vs →
+    (g : Graph) → Lawful g → (u : ℕ) (vs : List ℕ) → Pairwise (λ v w. v ≢ w) vs → ((v : ℕ) → g.linked u v ≡ true → v among vs) → AllByRecursion (λ v. g.linked u v ≡ true) vs →
     (S : Set) → degree g S u ≡ count_by S vs

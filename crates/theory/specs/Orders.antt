@@ -4,14 +4,14 @@
 --     StrictOrder le              le is an order in which no two persons are level
 --     Below le u v                u is weaker than v
 --     Weakest le S w              w is a weakest member of S
---     by_grade grade               at most as strong, by a number for each person
+--     by_grade grade              at most as strong, by a number for each person
 --     Ranking le weaker           weaker is a strict order of all persons, and agrees with le
 --     Named weaker S w            w is weaker than every other member of S
---     by_number le                 weaker, by le and among level persons by number: the smaller number is weaker
---     not_after weaker             at most as strong, of a strict order
---     tie_broken le                at most as strong, by le and then by number: no two are level
+--     by_number le                weaker, by le and among level persons by number: the smaller number is weaker
+--     not_after weaker            at most as strong, of a strict order
+--     tie_broken le               at most as strong, by le and then by number: no two are level
 --     weakest le S n              a weakest member of S below n, if there is one
-use Rattle.std.specs.Prelude.{◌≡◌, ℕ, zero, suc, Bool, true, false, cond, not, ◌&&◌, ◌||◌, ◌≢◌, ◌⊎◌, nat_le, nat_lt}
+use Rattle.std.specs.Prelude.{◌≡◌, ℕ, zero, suc, true, false, cond, not, ◌&&◌, ◌||◌, ◌≢◌, ◌⊎◌, nat_le, nat_lt}
 use Rattle.std.proofs.Math.Option.{Option, some, none}
 use Rattle.theory.specs.Sets.{Set, Relation, ◌∈◌}
 

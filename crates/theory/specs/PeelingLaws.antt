@@ -4,8 +4,8 @@
 --     Dropped-are-own             who is dropped in a round is in its circle and in no circle that it holds
 --     Innermost-drops-all         a circle is innermost exactly when its round drops the whole of it
 --     Innermost-is-tested         where persons may be level: innermost exactly when nobody is left once the weakest and all level with it are out
-use Rattle.std.specs.Prelude.{◌≡◌, ℕ, true, not, ◌&&◌, List}
-use Rattle.std.specs.List.{AllByRecursion as All}
+use Rattle.std.specs.Prelude.{◌≡◌, ℕ, not, ◌&&◌}
+use Rattle.std.specs.List.{AllByRecursion}
 use Rattle.theory.specs.Sets.{Set, Relation, ◌∈◌, ◌⊆◌, without, minus, both_of, ◌among◌, Pairwise}
 use Rattle.theory.specs.Graphs.{Graph, Lawful, Inside, Tight}
 use Rattle.theory.specs.Orders.{Order, Strict, Below, Weakest}
@@ -16,7 +16,7 @@ use Rattle.theory.specs.Peeling.{dropped, peel}
 abbrev pub Peeling-meets-circles-once : Type 0
 Peeling-meets-circles-once =
     (g : Graph) → Lawful g → (le : Relation) → Order le → Strict le → (k : ℕ) →
-    All (λ e. Circle g le k e.1 × Weakest le e.1 e.0) (peel g le k g.size (core g k (everyone g)))
+    AllByRecursion (λ e. Circle g le k e.1 × Weakest le e.1 e.0) (peel g le k g.size (core g k (everyone g)))
     × Pairwise (λ e f. Below le e.0 f.0) (peel g le k g.size (core g k (everyone g)))
     × ((S : Set) (w : ℕ) → Circle g le k S → Weakest le S w → (w, S) among peel g le k g.size (core g k (everyone g)))
 

@@ -10,12 +10,12 @@
 --     times n f x                 f, n times, from x on
 --     below n p                   the members of p below n
 --     x among xs                  x stands in the list
---     any_of p xs, has v vs        does some element pass; does v stand in the list
+--     any_of p xs, has v vs       does some element pass; does v stand in the list
 --     Pairwise R xs               each element stands in R to all behind it
 --     members p n                 the numbers below n that pass, rising
 --     ListOf P vs                 vs is the list of those with the property P, rising
 use Rattle.std.specs.Prelude.{◌≡◌, ℕ, zero, suc, ◌+◌, ◌<◌, Bool, true, false, not, ◌&&◌, ◌||◌, ◌⊎◌, List, [], ◌∷◌, filter, ◌==◌, nat_eq, nat_lt}
-use Rattle.std.specs.List.{range_with_len, AllByRecursion as All}
+use Rattle.std.specs.List.{range_with_len, AllByRecursion}
 
 infix 50 ◌∈◌
 infix 50 ◌⊆◌
@@ -87,7 +87,7 @@ has v vs = any_of (nat_eq v) vs
 
 abbrev pub Pairwise : {A : Type 0} → (A → A → Type 0) → List A → Type 0
 Pairwise R [] = Unit {0}
-Pairwise R (x ∷ xs) = All (R x) xs × Pairwise R xs
+Pairwise R (x ∷ xs) = AllByRecursion (R x) xs × Pairwise R xs
 
 abbrev pub members : Set → ℕ → List ℕ
 members p n = filter p (range_with_len 0 n)

@@ -25,8 +25,8 @@ loop-u-preserved g c =
     elim c.if-fell-u-eq0.branch [
       | then-fell-u-eq0+then-degree-u w ↦
           (let a = alive_read c.loop-u.fell u inside w.if-fell-u-eq0.true in
-          let e = w.let-fall-end.ensures in
-          let p = next_place c.loop-u.end (length c.loop-u.order) w.let-fall-end.result e.tail in
+          let e = w.let_fall-end.ensures in
+          let p = next_place c.loop-u.end (length c.loop-u.order) w.let_fall-end.result e.tail in
           let sf : length c.if-fell-u-eq0.fell ≡ length c.loop-u.fell = ap length (w.fell-is ∙ e.fell) ∙ length-set c.loop-u.fell u mark in
           let so : length c.if-fell-u-eq0.order ≡ length c.loop-u.order = ap length (w.order-is ∙ e.order) ∙ length-set c.loop-u.order c.loop-u.end u in (
             omega (arith, sf),

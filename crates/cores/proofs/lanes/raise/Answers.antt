@@ -12,8 +12,8 @@ loop-u-preserved g c =
       (λ v i. filled (degree_of net) c.loop-u.degree c.loop-u.u c.degree.result (omega arith) c.loop-u.invariant.1 c.degree.ensures v i),
     )
 
-pub overflow-cast-degree : goal.overflow-cast-degree
-overflow-cast-degree g c =
+pub overflow_cast-degree : goal.overflow_cast-degree
+overflow_cast-degree g c =
     let few = (g.N.Network.sound c.args.net.now).few in
     let a = degree_le (g.N.Network.meaning c.args.net.now) c.loop-u.u in
     let b = c.degree.ensures in

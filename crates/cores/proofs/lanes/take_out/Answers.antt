@@ -14,7 +14,7 @@ returns-then-w-n g c =
     let net = g.N.Network.meaning c.args.net.now in
     let gr = graph_of net in
     let l = lanes c.args.fell.now c.args.degree.now c.args.order.now c.args.tail in
-    let fit : fitting net.persons c.args.mark l c.args.near.now ≡ true = ap (λ m. fitting m c.args.mark l c.args.near.now) (sym c.persons-n.ensures) ∙ sym c.lanes-fit.ensures ∙ c.if-not-lanes-fit.false in
+    let fit : fitting net.persons c.args.mark l c.args.near.now ≡ true = ap (λ m. fitting m c.args.mark l c.args.near.now) (sym c.persons-n.ensures) ∙ sym c.lanes_fit.ensures ∙ c.if-not-lanes_fit.false in
     let lf = (fits_gives net.persons c.args.mark l c.args.near.now fit).2 in
     record {
       unfit = λ e. absurd (both_ways _ e fit);
@@ -26,16 +26,16 @@ returns-then-fell-w-eq0 g c =
     let net = g.N.Network.meaning c.args.net.now in
     let gr = graph_of net in
     let l = lanes c.args.fell.now c.args.degree.now c.args.order.now c.args.tail in
-    let fit : fitting net.persons c.args.mark l c.args.near.now ≡ true = ap (λ m. fitting m c.args.mark l c.args.near.now) (sym c.persons-n.ensures) ∙ sym c.lanes-fit.ensures ∙ c.if-not-lanes-fit.false in
+    let fit : fitting net.persons c.args.mark l c.args.near.now ≡ true = ap (λ m. fitting m c.args.mark l c.args.near.now) (sym c.persons-n.ensures) ∙ sym c.lanes_fit.ensures ∙ c.if-not-lanes_fit.false in
     let (p, t, lf, ld, lo, ln) = fits_gives net.persons c.args.mark l c.args.near.now fit in
     let a = alive_read c.args.fell.now c.args.w (omega (arith, c.persons-n.ensures, c.if-w-n.false)) c.if-fell-w-eq0.true in
-    let next = next_place c.args.tail (length c.args.order.now) c.let-fall-end.result c.let-fall-end.ensures.tail in
+    let next = next_place c.args.tail (length c.args.order.now) c.let_fall-end.result c.let_fall-end.ensures.tail in
     record {
       unfit = λ e. absurd (both_ways _ e fit);
       fallen = λ _ r enough.
           let place = queue_place gr c.args.mark l l c.args.tail c.args.w [] lf a (queue_starts gr c.args.mark l r) in
           c.cascade.ensures.fallen (without (alive c.args.fell.now) c.args.w) l
-          (moved c.let-fall-end.ensures.fell refl c.let-fall-end.ensures.order (next.3 (omega (arith, place, lo))) (one_falls gr c.args.k c.args.mark l c.args.w p lf lo a r enough));
+          (moved c.let_fall-end.ensures.fell refl c.let_fall-end.ensures.order (next.3 (omega (arith, place, lo))) (one_falls gr c.args.k c.args.mark l c.args.w p lf lo a r enough));
     }
 
 pub returns : goal.returns
@@ -43,7 +43,7 @@ returns g c =
     let net = g.N.Network.meaning c.args.net.now in
     let gr = graph_of net in
     let l = lanes c.args.fell.now c.args.degree.now c.args.order.now c.args.tail in
-    let fit : fitting net.persons c.args.mark l c.args.near.now ≡ true = ap (λ m. fitting m c.args.mark l c.args.near.now) (sym c.persons-n.ensures) ∙ sym c.lanes-fit.ensures ∙ c.if-not-lanes-fit.false in
+    let fit : fitting net.persons c.args.mark l c.args.near.now ≡ true = ap (λ m. fitting m c.args.mark l c.args.near.now) (sym c.persons-n.ensures) ∙ sym c.lanes_fit.ensures ∙ c.if-not-lanes_fit.false in
     let lf = (fits_gives net.persons c.args.mark l c.args.near.now fit).2 in
     record {
       unfit = λ e. absurd (both_ways _ e fit);

@@ -12,6 +12,6 @@ returns g c =
     let scratch = length c.args.scratch.now in
     let places = length c.args.row.now in
     let o = opened (cores_fault n scratch places) (cores_open n scratch places (omega (arith, c.persons-n.ensures)) (omega (arith, c.persons-n.ensures)))
-    c.number-all.new.row (onto (cores_of net) c.args.row.now) c.args.row.now c.args.scratch.now _
-    (numbers_list net c.args.row.now c.number-all.new.row (omega arith) (omega (arith, c.persons-n.ensures)) c.number-all.ensures.numbers c.number-all.ensures.rest) in
+    c.number_all.new.row (onto (cores_of net) c.args.row.now) c.args.row.now c.args.scratch.now _
+    (numbers_list net c.args.row.now c.number_all.new.row (omega arith) (omega (arith, c.persons-n.ensures)) c.number_all.ensures.numbers c.number_all.ensures.rest) in
     record { answer = o.0; numbers = o.1; kept = o.2 }

@@ -1,4 +1,4 @@
-use Rattle.std.proofs.Common.{◌≡◌, ◌+◌, ◌*◌, ◌/◌, ◌<◌, ◌≤◌, false, length, Err, sym, refl, ap, ◌∙◌, arith}
+use Rattle.std.proofs.Common.{◌≡◌, ◌+◌, ◌*◌, ◌/◌, ◌<◌, false, length, Err, sym, ap, ◌∙◌, arith}
 use Rattle.std.proofs.lemmas.List.{length-set}
 use Rattle.std.proofs.lemmas.Result.{err_from_is_err_and}
 use Rattle.frames.specs.Lines.{wrong_size}
@@ -6,28 +6,28 @@ use Rattle.frames.proofs.Spelling.{high, low, right_size, digit_ok, digit_err, b
 use Rattle.frames.proofs.line.read_line.Goals as goal
 
 pub bounds-bytes-i : goal.bounds-bytes-i
-bounds-bytes-i c = let w = right_size (length c.args.line.now) (sym c.if-wrong-size.ensures) in omega arith
+bounds-bytes-i c = let w = right_size (length c.args.line.now) (sym c.if-wrong_size.ensures) in omega arith
 
-pub returns-in-err-high : goal.returns-in-err-high
-returns-in-err-high c =
+pub returns-in_err-high : goal.returns-in_err-high
+returns-in_err-high c =
     let cs = c.args.line.now in
-    let s : wrong_size (length cs) ≡ false = sym c.if-wrong-size.ensures in
+    let s : wrong_size (length cs) ≡ false = sym c.if-wrong_size.ensures in
     let w = right_size (length cs) s in
     let h : 2 * c.loop-i.i + 1 < length cs = omega arith in
-    let p = err_from_is_err_and c.from-residual.result c.from-residual.ensures.1 in
-    let q = digit_err (high cs c.loop-i.i h) _ c.in-err-high.ensures.value in
+    let p = err_from_is_err_and c.from_residual.result c.from_residual.ensures.1 in
+    let q = digit_err (high cs c.loop-i.i h) _ c.in_err-high.ensures.value in
     let o = refused c.args.frame.now cs _ (p.1 ∙ ap Err (p.2 ∙ q.1)) s (bad_high cs c.loop-i.i h c.loop-i.invariant.3 q.0) in
     record { answer = o.answer; after = o.after }
 
-pub returns-in-err-low : goal.returns-in-err-low
-returns-in-err-low c =
+pub returns-in_err-low : goal.returns-in_err-low
+returns-in_err-low c =
     let cs = c.args.line.now in
-    let s : wrong_size (length cs) ≡ false = sym c.if-wrong-size.ensures in
+    let s : wrong_size (length cs) ≡ false = sym c.if-wrong_size.ensures in
     let w = right_size (length cs) s in
     let h : 2 * c.loop-i.i + 1 < length cs = omega arith in
-    let p = err_from_is_err_and c.from-residual-in-err-low.result c.from-residual-in-err-low.ensures.1 in
-    let good = digit_ok (high cs c.loop-i.i h) _ c.in-ok-high.ensures.value in
-    let q = digit_err (low cs c.loop-i.i h) _ c.in-err-low.ensures.value in
+    let p = err_from_is_err_and c.from_residual-in_err-low.result c.from_residual-in_err-low.ensures.1 in
+    let good = digit_ok (high cs c.loop-i.i h) _ c.in_ok-high.ensures.value in
+    let q = digit_err (low cs c.loop-i.i h) _ c.in_err-low.ensures.value in
     let o = refused c.args.frame.now cs _ (p.1 ∙ ap Err (p.2 ∙ q.1)) s (bad_low cs c.loop-i.i h c.loop-i.invariant.3 good.0 q.0) in
     record { answer = o.answer; after = o.after }
 
@@ -36,11 +36,11 @@ loop-i-preserved c =
     let cs = c.args.line.now in
     let i = c.loop-i.i in
     let bs = c.loop-i.bytes in
-    let v = c.in-ok-high.high * 16 + c.in-ok-low.low in
-    let w = right_size (length cs) (sym c.if-wrong-size.ensures) in
+    let v = c.in_ok-high.high * 16 + c.in_ok-low.low in
+    let w = right_size (length cs) (sym c.if-wrong_size.ensures) in
     let h : 2 * i + 1 < length cs = omega arith in
-    let p = digit_ok (high cs i h) _ c.in-ok-high.ensures.value in
-    let q = digit_ok (low cs i h) _ c.in-ok-low.ensures.value in (
+    let p = digit_ok (high cs i h) _ c.in_ok-high.ensures.value in
+    let q = digit_ok (low cs i h) _ c.in_ok-low.ensures.value in (
       length-set bs i v ∙ c.loop-i.invariant.0,
       zeros_more bs i v c.loop-i.invariant.1,
       bytes_more cs i h bs _ _ (omega arith) p.1 q.1 c.loop-i.invariant.2,
@@ -50,7 +50,7 @@ loop-i-preserved c =
 pub returns : goal.returns
 returns c =
     let cs = c.args.line.now in
-    let s : wrong_size (length cs) ≡ false = sym c.if-wrong-size.ensures in
+    let s : wrong_size (length cs) ≡ false = sym c.if-wrong_size.ensures in
     let e : c.loop-i.i ≡ length cs / 2 = omega arith in
     let i = c.loop-i.invariant in
     let o = accepted c.args.frame.now c.loop-i.bytes cs s i.0 (rw e at i.1) (rw e at i.2) (rw e at i.3) in

@@ -19,18 +19,18 @@ encoded g = record {
   known = g.met.G.Wire.known;
 }
 
-pub returns-in-err-read-line : goal.returns-in-err-read-line
-returns-in-err-read-line g c =
+pub returns-in_err-read_line : goal.returns-in_err-read_line
+returns-in_err-read_line g c =
     let cs = c.args.line.now in
     let bs = bytes_in cs in
-    let p = err_from_is_err_and c.from-residual.result c.from-residual.ensures.1 in
-    let a = read_refused cs (request_fault g.G.Wire.size bs) (request_of g.G.Wire.grade_of g.G.Wire.size bs) _ _ (p.1 ∙ ap Err p.2) c.in-err-read-line.ensures.answer in
-    let t = told g.G.Wire.InRange g.G.Wire.bytes_of g.G.Wire.grade_of g.G.Wire.size (encoded g) cs c.from-residual.result a in
+    let p = err_from_is_err_and c.from_residual.result c.from_residual.ensures.1 in
+    let a = read_refused cs (request_fault g.G.Wire.size bs) (request_of g.G.Wire.grade_of g.G.Wire.size bs) _ _ (p.1 ∙ ap Err p.2) c.in_err-read_line.ensures.answer in
+    let t = told g.G.Wire.InRange g.G.Wire.bytes_of g.G.Wire.grade_of g.G.Wire.size (encoded g) cs c.from_residual.result a in
     record { answer = t.answer; refusal = t.refusal; exact = t.exact }
 
 pub returns : goal.returns
 returns g c =
     let cs = c.args.line.now in
-    let a = read_passed (request_fault g.G.Wire.size) (request_of g.G.Wire.grade_of g.G.Wire.size) _ c.read-line.new.frame cs _ c.in-ok-read-line.ensures.answer c.read-line.ensures.after c.request-in.ensures in
-    let t = told g.G.Wire.InRange g.G.Wire.bytes_of g.G.Wire.grade_of g.G.Wire.size (encoded g) cs c.request-in.result a in
+    let a = read_passed (request_fault g.G.Wire.size) (request_of g.G.Wire.grade_of g.G.Wire.size) _ c.read_line.new.frame cs _ c.in_ok-read_line.ensures.answer c.read_line.ensures.after c.request_in.ensures in
+    let t = told g.G.Wire.InRange g.G.Wire.bytes_of g.G.Wire.grade_of g.G.Wire.size (encoded g) cs c.request_in.result a in
     record { answer = t.answer; refusal = t.refusal; exact = t.exact }

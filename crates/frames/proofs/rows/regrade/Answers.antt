@@ -9,6 +9,6 @@ returns g c =
     let narrow = g.met.G.Wire.narrow in
     let few : length xs ≤ 16 = omega arith in
     record {
-      bytes = grade_written c.args.kind c.args.person c.one-word-bytes.result c.write.new.places xs c.one-word-bytes.ensures.bytes c.write.ensures.written few;
-      ranged = (c.one-word-bytes.ensures.ranged, c.write.ensures.ranged);
+      bytes = grade_written c.args.kind c.args.person c.one_word-bytes.result c.write.new.places xs c.one_word-bytes.ensures.bytes c.write.ensures.written few;
+      ranged = (c.one_word-bytes.ensures.ranged, c.write.ensures.ranged);
     }

@@ -6,4 +6,4 @@ use Rattle.frames.proofs.rows.seal.Goals as goal
 pub returns : goal.returns
 returns c =
     let n : c.args.len - 1 - 0 ≡ c.args.len - 1 = omega arith in
-    λ xs l e. sealed xs c.args.bytes c.args.len c.check-byte.result c.requires.1 l e (c.check-byte.ensures ∙ ap (λ k. check_of (take k c.args.bytes)) n)
+    λ xs l e. sealed xs c.args.bytes c.args.len c.check_byte.result c.requires.len_bound l e (c.check_byte.ensures ∙ ap (λ k. check_of (take k c.args.bytes)) n)

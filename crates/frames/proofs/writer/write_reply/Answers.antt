@@ -3,6 +3,6 @@ use Rattle.frames.proofs.writer.write_reply.Goals as goal
 
 pub returns : goal.returns
 returns c = record {
-  value = line_written _ _ _ c.write-line.ensures c.reply-frame.ensures.value;
-  ranged = c.reply-frame.ensures.ranged;
+  value = line_written _ _ _ c.write_line.ensures c.reply_frame.ensures.value;
+  ranged = c.reply_frame.ensures.ranged;
 }
