@@ -1,5 +1,5 @@
 -- A grade replaced: the network with that grade, and nothing else. Assumes nothing.
-use Rattle.std.proofs.Common.{◌≡◌, ℕ, ◌-◌, ◌*◌, ◌<◌, List, [], ◌∷◌, length, take, drop, set, ap, ap₂}
+use Rattle.std.proofs.Common.{◌≡◌, ℕ, ◌-◌, ◌*◌, ◌<◌, List, [], ◌∷◌, length, drop, set, ap, ap₂}
 use Rattle.std.proofs.lemmas.List.{length-set, drop-set-lt}
 use Rattle.networks.specs.Changes.{with_grade}
 use Rattle.networks.specs.Fixed.{Fixed}

@@ -1,12 +1,12 @@
 -- A square of bits, one for each ordered pair of persons, row by row in whole bytes. Assumes nothing.
 --     stride n                    the bytes of a row for n persons
 --     place n u v                 the byte of the pair u, v
---     bit_of x k                   the bit k of x, counted from the lowest
---     bit_at n bits u v            u and v are persons whose bit is set
---     net_in n bits grades         the network that they mean
---     spare_at n bits u v          a bit of u's row past the last person is set
+--     bit_of x k                  the bit k of x, counted from the lowest
+--     bit_at n bits u v           u and v are persons whose bit is set
+--     net_in n bits grades        the network that they mean
+--     spare_at n bits u v         a bit of u's row past the last person is set
 --     flipped n bits u v          the bit of u, v turned over
-use Rattle.std.specs.Prelude.{ℕ, ◌+◌, ◌*◌, ◌/◌, ◌%◌, ◌^◌, Bool, ◌&&◌, List, take, set, ◌==◌, bit_xor, nat_le, nat_lt, slice_index, slice_set}
+use Rattle.std.specs.Prelude.{ℕ, ◌+◌, ◌*◌, ◌/◌, ◌%◌, ◌^◌, Bool, ◌&&◌, List, take, ◌==◌, bit_xor, nat_le, nat_lt, slice_index, slice_set}
 use Rattle.networks.specs.Net.{Net}
 
 abbrev pub stride : ℕ → ℕ

@@ -1,6 +1,6 @@
 -- The memory of a bit matrix: what the check goes by, and what it holds. Assumes nothing.
---     sizes_of, refusal_for         the lengths of bits and grades; 6 above 4,096 persons, else 7 where one is short
---     byte_of t                    the byte with the bits t
+--     sizes_of, refusal_for       the lengths of bits and grades; 6 above 4,096 persons, else 7 where one is short
+--     byte_of t                   the byte with the bits t
 --     packed net                  the bytes of a network, row by row; spare bits are clear
 --     Holding net f m             the memory holds just the network, and behind it what lay there at the opening
 use Rattle.std.specs.Prelude.{◌≡◌, ℕ, ◌+◌, ◌-◌, ◌*◌, ◌/◌, ◌%◌, Bool, cond, ◌||◌, List, [], ◌∷◌, ◌++◌, map, length, drop, Some, None, Option, nat_lt, slice_index, slice_index_or}

@@ -1,6 +1,6 @@
 -- A row read by words of 64 bits. Assumes nothing.
---     word_of bytes                the number of some bytes, the low byte first
---     set_bits m from w            the places of the set bits among the lowest m of w, rising, counted from `from`
+--     word_of bytes               the number of some bytes, the low byte first
+--     set_bits m from w           the places of the set bits among the lowest m of w, rising, counted from `from`
 use Rattle.std.specs.Prelude.{ℕ, zero, suc, ◌+◌, ◌*◌, ◌/◌, ◌%◌, cond, List, [], ◌∷◌, ◌==◌}
 
 abbrev pub word_of : List ℕ → ℕ

@@ -1,7 +1,6 @@
 // Opening a bit matrix from memory, and handing the memory back.
-ghost use Rattle.std.specs.Prelude.{◌≡◌, [], ◌∷◌, length};
+ghost use Rattle.std.specs.Prelude.{◌≡◌, refl, [], ◌∷◌, length};
 ghost use Rattle.matrix.specs.Memory.{refusal_for, fixed_in, Holding};
-ghost use Rattle.std.proofs.Common.{rules, arith};
 
 use crate::bits::{are_bytes, clear_rows};
 use crate::matrix::{BitMatrix, MatrixMemory};
@@ -22,9 +21,9 @@ impl<G: Grade + Drop> Opening for BitMatrix<G> {
 
     ghost Holds = { λ net f m. Holding net f m.bits.items m.grades.items };
 
-    ghost sized = { first_of (Prim.search rules, Prim.grind (arith, Self.row.coded.inj)) };
+    ghost sized = { λ _ _. refl };
 
-    ghost back = { first_of (Prim.search rules, Prim.grind (arith, Self.row.coded.inj)) };
+    ghost back = { λ _ _ _ h. h.sized };
 
     fn check(n: usize, memory: &MatrixMemory<G>) -> Result<(), CallFault> {
         if n > 4096 {

@@ -4,7 +4,9 @@ use grades::{Grade, Laurels, Points};
 use matrix::{BitMatrix, MatrixMemory};
 use networks::{Capped, Changing, Network, Opening};
 use rows::{AdjacencyRows, RowsMemory};
-use std::test::*;
+use std::alloc::Global;
+use std::process::Abort;
+use std::test::Fail;
 
 // What the answers to the list come to: the numbers of the changes, then what the network tells.
 #[derive(Clone, Copy, PartialEq, Eq, Debug)]
@@ -79,20 +81,21 @@ fn matrix_of<G: Grade + Clone + Drop>(rt: HostRuntime, zero: G) -> Result<BitMat
 }
 
 fn rows_of<G: Grade + Clone + Drop>(
-    rt: HostRuntime,
+    rt: &impl Abort,
+    alloc: Global,
     span: usize,
     zero: G,
 ) -> Result<AdjacencyRows<G>, Fail> {
-    let counts = vec![in rt.alloc(); 9u16; 6]?;
-    let cells = vec![in rt.alloc(); 9u16; 20]?;
-    let grades = vec![in rt.alloc(); zero; 5]?;
+    let counts = vec![in alloc; 9u16; 6]?;
+    let cells = vec![in alloc; 9u16; 20]?;
+    let grades = vec![in alloc; zero; 5]?;
     let memory = RowsMemory {
         span,
         counts,
         cells,
         grades,
     };
-    assert_eq!(code(AdjacencyRows::check(5, &memory)), 0);
+    assert_eq!(rt; code(AdjacencyRows::check(5, &memory)), 0);
     Ok(AdjacencyRows::open(5, memory))
 }
 
@@ -113,22 +116,25 @@ fn matrix_of_each_grade(rt: HostRuntime) -> Result<(), Fail> {
 #[test]
 fn rows_of_each_grade(rt: HostRuntime) -> Result<(), Fail> {
     assert_eq!(rt;
-        try_out(&mut rows_of(rt.clone()?, 4, Points(0))?, Points(3)),
+        try_out(&mut rows_of(&rt, rt.alloc(), 4, Points(0))?, Points(3)),
         FIVE
     );
-    assert_eq!(rt; try_out(&mut rows_of(rt, 1, LOW)?, HIGH), UNDER_ONE);
+    assert_eq!(rt;
+        try_out(&mut rows_of(&rt, rt.alloc(), 1, LOW)?, HIGH),
+        UNDER_ONE
+    );
     Ok(())
 }
 
 #[test]
 fn capped_rows_of_each_grade(rt: HostRuntime) -> Result<(), Fail> {
     let mut one = Capped {
-        below: rows_of(rt.clone()?, 4, Points(0))?,
+        below: rows_of(&rt, rt.alloc(), 4, Points(0))?,
         limit: 1,
     };
     assert_eq!(rt; try_out(&mut one, Points(3)), UNDER_ONE);
     let mut three = Capped {
-        below: rows_of(rt, 4, LOW)?,
+        below: rows_of(&rt, rt.alloc(), 4, LOW)?,
         limit: 3,
     };
     assert_eq!(rt; try_out(&mut three, HIGH), FIVE);

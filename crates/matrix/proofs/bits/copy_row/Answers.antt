@@ -1,4 +1,4 @@
-use Rattle.std.proofs.Common.{◌≡◌, ◌+◌, ◌*◌, ◌/◌, ◌≤◌, ◌++◌, length, filter, sym, refl, ap, ◌∙◌, add-mul, arith, rules}
+use Rattle.std.proofs.Common.{◌≡◌, ◌+◌, ◌*◌, ◌≤◌, ◌++◌, length, filter, sym, refl, ap, ◌∙◌, add-mul, arith}
 use Rattle.std.specs.List.{range_with_len}
 use Rattle.std.proofs.lemmas.Nat.{mul-le}
 use Rattle.grades.specs.Places.{onto}
@@ -24,12 +24,12 @@ eight-requires c =
     let last : c.args.u + 1 ≤ n = omega arith in
     let rows = mul-le (c.args.u + 1) (stride n) n (stride n) last (omega arith) in
     let split = add-mul c.args.u 1 (stride n) in
-    (omega arith, omega (arith, c.requires.0))
+    (omega arith, omega (arith, c.requires.n_bound))
 
-pub copy-set-bits-count-requires : goal.copy-set-bits-count-requires
-copy-set-bits-count-requires c =
+pub copy_set_bits-count-requires : goal.copy_set_bits-count-requires
+copy_set_bits-count-requires c =
     let few = kept_few (bit_at c.args.n c.args.bits.now c.args.u) 0 (64 * c.loop-i.i) in
-    (omega (arith, c.requires.0), omega (arith, c.requires.0, c.loop-i.invariant.0))
+    (omega (arith, c.requires.n_bound), omega (arith, c.requires.n_bound, c.loop-i.invariant.0))
 
 pub loop-i-preserved : goal.loop-i-preserved
 loop-i-preserved c =
@@ -39,12 +39,12 @@ loop-i-preserved c =
     let i = c.loop-i.i in
     let p = bit_at n bits u in
     let row = filter p (range_with_len 0 (64 * i)) in
-    let strip = ap (set_bits 64 (64 * i)) c.from-le-bytes-word.ensures
-    ∙ strip_kept n bits u i c.if-u-n.false c.requires.spare (λ k. (c.type-inv.bits k).fits) c.eight.result c.eight.ensures in
+    let strip = ap (set_bits 64 (64 * i)) c.from_le_bytes-word.ensures
+    ∙ strip_kept n bits u i c.if-u-n.false c.requires.spare (λ k. (c.type_inv.bits k).fits) c.eight.result c.eight.ensures in
     let more : 64 * i + 64 ≡ 64 * (i + 1) = omega arith in
-    let all : row ++ set_bits 64 (64 * i) c.from-le-bytes-word.result ≡ filter p (range_with_len 0 (64 * (i + 1))) =
+    let all : row ++ set_bits 64 (64 * i) c.from_le_bytes-word.result ≡ filter p (range_with_len 0 (64 * (i + 1))) =
     ap (λ t. row ++ t) strip ∙ sym (kept_append p (64 * i) 64) ∙ ap (λ m. filter p (range_with_len 0 m)) more in
-    let said = c.copy-set-bits-count.ensures row c.args.places.now c.loop-i.invariant.0 c.loop-i.invariant.1 in
+    let said = c.copy_set_bits-count.ensures row c.args.places.now c.loop-i.invariant.0 c.loop-i.invariant.1 in
     (said.0 ∙ ap length all, said.1 ∙ ap (λ t. onto t c.args.places.now) all)
 
 pub returns : goal.returns

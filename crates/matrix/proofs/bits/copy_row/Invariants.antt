@@ -1,4 +1,4 @@
-use Rattle.std.proofs.Common.{◌≡◌, ◌*◌, ◌≤◌, length, filter}
+use Rattle.std.proofs.Common.{◌≡◌, ◌*◌, length, filter}
 use Rattle.std.specs.List.{range_with_len}
 use Rattle.grades.specs.Places.{onto}
 use Rattle.matrix.specs.Bits.{bit_at}

@@ -1,4 +1,4 @@
-use Rattle.std.proofs.Common.{◌≡◌, ◌+◌, ◌-◌, ◌^◌, ◌<◌, [], ◌∷◌, ◌++◌, length, set, sym, refl, ap, ◌∙◌, append_assoc, arith, rules}
+use Rattle.std.proofs.Common.{◌≡◌, ◌+◌, ◌-◌, ◌^◌, ◌<◌, [], ◌∷◌, ◌++◌, length, set, sym, ap, ◌∙◌, append_assoc, arith, rules}
 use lib.Bits.{bit_and, and_le_r}
 use lib.Count.{count_trailing_zeros}
 use Rattle.std.proofs.lemmas.List.{length-append, append-nil}
@@ -9,8 +9,8 @@ use Rattle.matrix.proofs.Digits.{first_bit, no_bits, bits_few}
 use Rattle.matrix.proofs.words.copy_set_bits.Goals as goal
 use Rattle.matrix.proofs.words.copy_set_bits.Goals.{then-count-places, else-count-places}
 
-pub overflow-add-count : goal.overflow-add-count
-overflow-add-count c = let few = bits_few 64 c.args.from c.args.word in let i = c.loop-left.invariant.1 in search rules
+pub overflow_add-count : goal.overflow_add-count
+overflow_add-count c = let few = bits_few 64 c.args.from c.args.word in let i = c.loop-left.invariant.1 in search rules
 
 pub loop-left-preserved : goal.loop-left-preserved
 loop-left-preserved c =

@@ -1,4 +1,4 @@
-use Rattle.std.proofs.Common.{◌≡◌, ◌+◌, ◌<◌, ◌≢◌, length, get_or, ◌∙◌, arith, below_more}
+use Rattle.std.proofs.Common.{◌+◌, ◌<◌, length, get_or, ◌∙◌, arith, below_more}
 use Rattle.std.proofs.lemmas.List.{length-set, get_or-set_same, get_or-set_other}
 use Rattle.matrix.proofs.words.eight.Goals as goal
 

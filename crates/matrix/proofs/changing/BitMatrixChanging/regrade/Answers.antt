@@ -1,4 +1,4 @@
-use Rattle.std.proofs.Common.{◌≡◌, sym, refl, ap, ◌∙◌, ap₂}
+use Rattle.std.proofs.Common.{sym, ap, ◌∙◌}
 use Rattle.faults.specs.Answers.{answered, unless}
 use Rattle.networks.specs.Changes.{with_grade}
 use Rattle.networks.proofs.Refusals.{regrade_granted}

@@ -8,14 +8,14 @@ use Rattle.matrix.specs.Memory.{fixed_in}
 use Rattle.matrix.proofs.Pairs.{pair_keeps, pair_fixed, net_unlinked}
 use Rattle.matrix.proofs.changing.BitMatrixChanging.unlink.Goals as goal
 
-pub invariant-of-self : goal.invariant-of-self
-invariant-of-self g c =
+pub invariant_of-self : goal.invariant_of-self
+invariant_of-self g c =
     let s = c.args.self.now in
     let u = c.args.u in
     let v = c.args.v in
-    let stored = with_items_is s.bits c.flip-pair.new.bits (omega arith) ∙ c.flip-pair.ensures ∙ ap (λ t. pair_flipped s.n t u v) c.deref-mut.ensures.value in
+    let stored = with_items_is s.bits c.flip_pair.new.bits (omega arith) ∙ c.flip_pair.ensures ∙ ap (λ t. pair_flipped s.n t u v) c.deref_mut.ensures.value in
     let k = pair_keeps s.n s.bits.items u v c.if-u-n.false c.if-v-n.false c.if-u-v.false s.room (record { room = s.room; mirror = s.mirror; apart = s.apart; spare = s.spare }) _ stored in
-    (s.few, (k.room, (s.graded, (k.mirror, (k.apart, (k.spare, tt))))))
+    record { few = s.few; room = k.room; graded = s.graded; mirror = k.mirror; apart = k.apart; spare = k.spare }
 
 pub returns : goal.returns
 returns g c =
@@ -23,7 +23,7 @@ returns g c =
     let u = c.args.u in
     let v = c.args.v in
     let net = net_in s.n s.bits.items s.grades.items in
-    let stored = with_items_is s.bits c.flip-pair.new.bits (omega arith) ∙ c.flip-pair.ensures ∙ ap (λ t. pair_flipped s.n t u v) c.deref-mut.ensures.value in
+    let stored = with_items_is s.bits c.flip_pair.new.bits (omega arith) ∙ c.flip_pair.ensures ∙ ap (λ t. pair_flipped s.n t u v) c.deref_mut.ensures.value in
     let here : bit_at s.n s.bits.items u v ≡ true = sym c.linked.ensures ∙ c.if-not-linked.false in
     let there : bit_at s.n s.bits.items v u ≡ true = s.mirror v u ∙ here in
     let granted = unlink_granted net u v c.if-u-n.false c.if-v-n.false c.if-u-v.false here in

@@ -1,24 +1,23 @@
-use Rattle.std.proofs.Common.{◌≡◌, ◌*◌, true, false, [], ◌∷◌, length, is_ok, sym, ap, ◌∙◌, subst, arith}
+use Rattle.std.proofs.Common.{◌*◌, [], ◌∷◌, length, is_ok, sym, ap, ◌∙◌, subst, arith}
 use Rattle.std.proofs.lemmas.List.{with_items_is}
-use Rattle.faults.specs.Answers.{answered}
 use Rattle.networks.specs.Fixed.{opened, opened_size}
 use Rattle.networks.specs.Places.{filled}
 use Rattle.networks.proofs.Refusals.{granted_none, refused_none}
 use Rattle.matrix.specs.Bits.{stride, net_in}
 use Rattle.matrix.specs.Memory.{refusal_for, fixed_in}
 use Rattle.matrix.proofs.Pairs.{Kept}
-use Rattle.matrix.proofs.Clears.{room_for, cleared_keeps, cleared_net, cleared_fixed, none_keeps, none_net}
+use Rattle.matrix.proofs.Clears.{room_for, cleared_keeps, cleared_net, cleared_fixed, none_net}
 use Rattle.matrix.proofs.opening.BitMatrixOpening.open.Goals as goal
 
-pub invariant-of-result : goal.invariant-of-result
-invariant-of-result g c =
+pub invariant_of-result : goal.invariant_of-result
+invariant_of-result g c =
     let m = c.args.memory in
     let n = c.args.n in
     let none = granted_none (refusal_for n (length m.bits.items ∷ length m.grades.items ∷ [])) (ap is_ok (sym c.check.ensures) ∙ sym c.if-granted.ensures.value) in
     let room = room_for n (length m.bits.items) (length m.grades.items) none in
-    let stored = with_items_is m.bits c.clear-rows.new.bits (omega arith) ∙ c.clear-rows.ensures ∙ ap (filled (n * stride n) 0) c.deref-mut.ensures.value in
+    let stored = with_items_is m.bits c.clear_rows.new.bits (omega arith) ∙ c.clear_rows.ensures ∙ ap (filled (n * stride n) 0) c.deref_mut.ensures.value in
     let k = subst (Kept n) (sym stored) (cleared_keeps n m.bits.items room.1) in
-    (room.0, (k.room, (room.2, (k.mirror, (k.apart, (k.spare, tt))))))
+    record { few = room.0; room = k.room; graded = room.2; mirror = k.mirror; apart = k.apart; spare = k.spare }
 
 pub returns-then-granted : goal.returns-then-granted
 returns-then-granted g c =
@@ -26,7 +25,7 @@ returns-then-granted g c =
     let n = c.args.n in
     let none = granted_none (refusal_for n (length m.bits.items ∷ length m.grades.items ∷ [])) (ap is_ok (sym c.check.ensures) ∙ sym c.if-granted.ensures.value) in
     let room = room_for n (length m.bits.items) (length m.grades.items) none in
-    let stored = with_items_is m.bits c.clear-rows.new.bits (omega arith) ∙ c.clear-rows.ensures ∙ ap (filled (n * stride n) 0) c.deref-mut.ensures.value in
+    let stored = with_items_is m.bits c.clear_rows.new.bits (omega arith) ∙ c.clear_rows.ensures ∙ ap (filled (n * stride n) 0) c.deref_mut.ensures.value in
     record {
       network = ap (λ t. net_in n t m.grades.items) stored ∙ cleared_net n m.bits.items room.1 m.grades.items ∙ ap (λ f. opened (opened_size f n) m.grades.items) (sym none);
       fixed = ap (λ t. fixed_in n t m.grades.items) stored ∙ cleared_fixed n m.bits.items room.1 m.grades.items ∙ ap (λ f. fixed_in (opened_size f n) m.bits.items m.grades.items) (sym none);
