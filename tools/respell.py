@@ -1,10 +1,11 @@
 #!/usr/bin/env python3
-"""Brings the repository's own definitions and lemmas to snake case, once, after the porting script.
+"""Brings the repository's own definitions and lemmas to today's spelling, once, after the porting script.
 
 usage: python3 tools/respell.py [--dry]     at the top of the repository
 
 Own names are those that a file of specs/ or proofs/ declares, and the ghost members of src/. A lowercase name that has
-capitals or dashes inside gets underscores in their place. Types, modules and facts keep their capitals. A name that a file takes from another
+capitals or dashes inside gets underscores in their place. A fact with dashes inside is written in camel case; a lemma that
+a library's fact begins, as All-weaker, stays. A name that a file takes from another
 library stays there, and so does each answer's name, which is made from the code. A lemma that would get the name of a definition
 gets _lem behind it. What would still fall together is printed, and nothing is written then.
 """
@@ -16,6 +17,7 @@ WORD = r"[^\s(){}\[\],;.|\"`]+"
 HEAD = re.compile(r"^\s*(?:unfoldable |abbrev |pub |ruleset )*(" + WORD + r"(?: " + WORD + r")*)\s+:\s(.*)")
 KIND = re.compile(r"^\s*(?:pub )?(?:data|record)\s+(" + WORD + ")")
 FIELD = re.compile(r"\s*ghost (\w+)\s*[:=]")
+LIBRARY = ("All", "IsPermutation", "Shuffled")
 IMPORT = re.compile(r"use\s+([^\s{;]+)\.\{([^}]*)\}")
 
 
@@ -30,6 +32,8 @@ def files():
 
 
 def spelled(name):
+    if name[0].isupper():
+        return "".join(part[:1].upper() + part[1:] for part in name.split("-"))
     name = re.sub(r"(?<=[a-z0-9])([A-Z])", lambda m: "_" + m.group(1).lower(), name)
     name = re.sub(r"_([A-Z])", lambda m: "_" + m.group(1).lower(), name)
     return name.replace("-", "_")
@@ -47,7 +51,8 @@ def declared(texts):
                 m = FIELD.match(line)
                 if m:
                     found.add(m.group(1))
-    return {n for n in found if re.match(r"[a-z]", n) and re.fullmatch(r"[A-Za-z0-9_'-]+", n)}
+    plain = {n for n in found if re.fullmatch(r"[A-Za-z0-9_'-]+", n)}
+    return {n for n in plain if n[0].islower() or "-" in n and n.split("-")[0] not in LIBRARY}
 
 
 def foreign(text):

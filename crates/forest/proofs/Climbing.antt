@@ -16,7 +16,7 @@ use Rattle.theory.proofs.Sets.{same_set}
 use Rattle.forest.specs.Holders.{holder, is, Reaches, there, up}
 use Rattle.forest.specs.Picking.{climbs, gathered, under_of}
 use Rattle.forest.specs.Rounds.{circle, key, own, round, rounds}
-use Rattle.forest.specs.TreeLaws.{Children-stand-later, Vertices-gather-circles}
+use Rattle.forest.specs.TreeLaws.{ChildrenStandLater, VerticesGatherCircles}
 use Rattle.forest.specs.Trees.{named, tree_for, Vertex, vertex_at}
 use Rattle.forest.proofs.Holders.{circle_round, holder_some, key_held, nest_key, reach_key, reach_last, reach_sub, reached, reaching, round_less}
 use Rattle.forest.proofs.Places.{among_placed, placed_among, placed_pairwise, under_placed}
@@ -111,12 +111,12 @@ module _ (g : Graph) (o : Lawful g) (le : Relation) (t : Order le) (str : Strict
       child_less : (x h : ℕ) → h < rounds g le k → Reaches g le k h x → x < rounds g le k
       child_less x h b r = omega (arith, (reach_sub g o le t str k b r).0)
 
-pub vertices_gather_circles : Vertices-gather-circles
+pub vertices_gather_circles : VerticesGatherCircles
 vertices_gather_circles g o le t str k l S w c we =
     let (i, b, e, s) = circle_complete g o le t str k S w c we in
     subst (λ vs. gathered vs w ≡ S) (sym (of_tree g o le t str k l)) (subst (λ z. gathered (tree_for g le k) z ≡ S) e (gathers g o le t str k i b ∙ s))
 
-pub children_stand_later : Children-stand-later
+pub children_stand_later : ChildrenStandLater
 unfolding tree_for vertex_at
 children_stand_later g o le t str k l =
     subst (Pairwise (λ x y. is y.weakest x.under ≡ false)) (sym (of_tree g o le t str k l))

@@ -11,7 +11,7 @@ use Rattle.theory.proofs.Members.{members_rise}
 use Rattle.theory.proofs.Numbers.{number_tells}
 use Rattle.theory.proofs.Totals.{count_total, rows_columns, total_same, total_suc, total_zero_is}
 use Rattle.forest.specs.Rounds.{own, round, rounds}
-use Rattle.forest.specs.TreeLaws.{Entries-are-core-numbers}
+use Rattle.forest.specs.TreeLaws.{EntriesAreCoreNumbers}
 use Rattle.forest.specs.Trees.{entries, largest, tree, tree_for, trees_from, Vertex, vertex_at}
 use Rattle.forest.proofs.Holders.{round_less}
 use Rattle.forest.proofs.Places.{largest_is}
@@ -57,7 +57,7 @@ module _ (g : Graph) (o : Lawful g) (le : Relation) (t : Order le) (str : Strict
       let e : suc k + n ≡ k + suc n = omega arith in
       omega (arith, entries_append (tree_for g le (suc k)) (trees_from g le (suc (suc k)) n), entries_for (suc k), entries_trees (suc k) n, total_suc (λ j. count (core g (suc j) (everyone g)) g.size) k, ap (total (λ j. count (core g (suc j) (everyone g)) g.size)) e)
 
-pub entries_are_core_numbers : Entries-are-core-numbers
+pub entries_are_core_numbers : EntriesAreCoreNumbers
 unfolding tree
 entries_are_core_numbers g o le t str =
     let L : ℕ = largest (core_number g) g.size in

@@ -5,7 +5,7 @@ use Rattle.theory.specs.Sets.{Set, times}
 use Rattle.theory.proofs.Iterating.{times_still}
 use Rattle.forest.specs.Holders.{there}
 use Rattle.forest.specs.Joining.{Finds, more, put, rejoined, Rooted}
-use Rattle.forest.specs.JoiningLaws.{Finding-ends-at-root}
+use Rattle.forest.specs.JoiningLaws.{FindingEndsAtRoot}
 use Rattle.forest.proofs.Joining.{roots_end_holders}
 
 put_at : (f : ℕ → ℕ) (a v x : ℕ) → x ≡ a → put f a v x ≡ v
@@ -112,7 +112,7 @@ join j m root up T b f lb rb tb = record { low = λ x p q. low x p q (cases_eq x
         let r : R x ≡ x = f.ends x p q (sym (put_off up b j x d) ∙ e) in
         step x ∙ ap (put (λ x. x) b j) r ∙ put_off (λ x. x) b j x d
 
-pub finding_ends_at_root : Finding-ends-at-root
+pub finding_ends_at_root : FindingEndsAtRoot
 finding_ends_at_root = (
   (λ j m root up ro f. ((λ a n l h s. find j m root up f n a l h s), shorten j m root up ro f)),
   begin,

@@ -9,7 +9,7 @@ use Rattle.theory.specs.Orders.{Order, Strict}
 use Rattle.theory.specs.Sets.{Relation, Set, ◌∈◌, ◌⊆◌}
 use Rattle.theory.proofs.Circles.{at_takes, circle_weakest, group_of}
 use Rattle.theory.proofs.Counting.{one_more}
-use Rattle.forest.specs.HolderLaws.{Holders-are-smallest}
+use Rattle.forest.specs.HolderLaws.{HoldersAreSmallest}
 use Rattle.forest.specs.Holders.{holder, is, last_below, Reaches, there, up}
 use Rattle.forest.specs.Rounds.{circle, key, own, round, rounds}
 use Rattle.forest.proofs.Rounds.{circle_at_lem, circle_circle, circle_complete, circle_left, in_rounds, key_in, key_round, left_first, left_mono, own_circle, own_left, own_round, round_own, round_tells, round_weakest}
@@ -135,7 +135,7 @@ module _ (g : Graph) (o : Lawful g) (le : Relation) (t : Order le) (str : Strict
         | inr d ↦ inr (h, omega (arith, (nest_key h i l m).0), m, s)
       ]
 
-pub holders_are_smallest : Holders-are-smallest
+pub holders_are_smallest : HoldersAreSmallest
 holders_are_smallest g o le t str k =
     record {
       latest = λ i j e. holder_is g o le t str k i (some j) e;

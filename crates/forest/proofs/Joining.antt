@@ -11,7 +11,7 @@ use Rattle.theory.proofs.Sets.{minus_in, same_set}
 use Rattle.theory.proofs.Walks.{walk_closed, walk_mono}
 use Rattle.forest.specs.Holders.{holder, Reaches, there, up}
 use Rattle.forest.specs.Joining.{rejoined, Roots, Touched}
-use Rattle.forest.specs.JoiningLaws.{Joining-steps-back, Roots-end-holders}
+use Rattle.forest.specs.JoiningLaws.{JoiningStepsBack, RootsEndHolders}
 use Rattle.forest.specs.Rounds.{circle, key, left, own, round, rounds}
 use Rattle.forest.proofs.Holders.{held_by_round, holder_is, holder_some, key_held, nest, nest_key, reach_key, reach_sub, round_less}
 use Rattle.forest.proofs.Rounds.{circle_circle, circle_left, left_falls, left_first, left_mono, left_within, own_circle, round_tells, round_weakest}
@@ -217,7 +217,7 @@ module _ (g : Graph) (o : Lawful g) (le : Relation) (t : Order le) (str : Strict
             let z : j ≡ b = same_circle j b bj lb (sym whole ∙ small ∙ ap (circle g le k) (rooted e)) in
             absurd (omega arith)
 
-pub roots_end_holders : Roots-end-holders
+pub roots_end_holders : RootsEndHolders
 roots_end_holders g o le t str k j root ro = (
   (λ a l b. (let m = root_holds g o le t str k j root ro a l b in reach_key g o le t str k a a (omega arith) b (root a) m, root_free g o le t str k j root ro a l b)),
   root_only g o le t str k j root ro,
@@ -225,7 +225,7 @@ roots_end_holders g o le t str k j root ro = (
   root_walk g o le t str k j root ro,
 )
 
-pub joining_steps_back : Joining-steps-back
+pub joining_steps_back : JoiningStepsBack
 joining_steps_back g o le t str k = (
   (λ root. record { between = λ a l b. absurd (omega arith); part = λ a l b. absurd (omega arith) }),
   (λ j root b ro touched dec. (step_back g o le t str k j root b ro touched dec, step_holder g o le t str k j root b ro touched dec)),

@@ -20,9 +20,9 @@ use Rattle.theory.proofs.Rankings.{below_weaker, by_number_lem}
 use Rattle.theory.proofs.Sets.{false_since, same_test}
 use Rattle.forest.specs.Holders.{chosen_round, holder, is}
 use Rattle.forest.specs.Picking.{choose, gathered, pick}
-use Rattle.forest.specs.RoundLaws.{Rounds-list}
+use Rattle.forest.specs.RoundLaws.{RoundsList}
 use Rattle.forest.specs.Rounds.{circle, key, rounds}
-use Rattle.forest.specs.TreeLaws.{Picking-lists}
+use Rattle.forest.specs.TreeLaws.{PickingLists}
 use Rattle.forest.specs.Trees.{named, tree, tree_for, Vertex, vertex_at}
 use Rattle.forest.proofs.Climbing.{gathers, inner_tells, same_key}
 use Rattle.forest.proofs.Holders.{holder_some, is_tells}
@@ -126,7 +126,7 @@ module _ (g : Graph) (o : Lawful g) (le : Relation) (t : Order le) (str : Strict
       same : (i : ℕ) → i < rounds g le k → not (any_of (λ y. is (key g le k i) y.under) (map (vertex_at g le k) (range_with_len 0 (rounds g le k)))) ≡ not (any (λ j. is i (holder g le k j)) (rounds g le k))
       same i l = ap not (test i l)
 
-pub rounds_list : Rounds-list
+pub rounds_list : RoundsList
 unfolding listing names last entry chosen_names
 rounds_list g o le t str k r ch =
     ap (λ xs. map (entry g le k) (drop (length xs - r) xs)) (sym (names_same g o le t str k ch) ∙ chosen_rounds g o le t str k ch)
@@ -142,7 +142,7 @@ rounds_list g o le t str k r ch =
         let n = (kept_among (chosen_round g le k ch) (range_with_len 0 (rounds g le k)) i (drop_among (length chosen - r) chosen i m)).0 in
         ap (λ S. (key g le k i, members S g.size)) (sym (circle_at_lem g o le t str k i (counted_below (rounds g le k) i n)))
 
-pub picking_lists : Picking-lists
+pub picking_lists : PickingLists
 unfolding pick listing names last entry chosen_names
 picking_lists g o le t str k r ch l = one ∙ two ∙ three
   where

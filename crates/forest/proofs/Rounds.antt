@@ -16,7 +16,7 @@ use Rattle.theory.proofs.Dropped.{round_stays_in_component}
 use Rattle.theory.proofs.Orders.{weakest_is, WeakestIs}
 use Rattle.theory.proofs.Peeling.{beyond, beyond_upward, rest_same, Upward}
 use Rattle.theory.proofs.Sets.{false_since, minus_from, minus_in, without_from, without_in}
-use Rattle.forest.specs.RoundLaws.{Rounds-meet-circles-once}
+use Rattle.forest.specs.RoundLaws.{RoundsMeetCirclesOnce}
 use Rattle.forest.specs.Rounds.{circle, key, left, next, own, round, rounds}
 
 -- the core of an upward set
@@ -243,7 +243,7 @@ module _ (g : Graph) (o : Lawful g) (le : Relation) (t : Order le) (str : Strict
       let l : i < rounds g le k = in_rounds i w (own_left i w (round_own w m)) in
       (i, l, e, circle_at_lem i l ∙ ap (circle_at g le k) e ∙ sym (circle_known g o le t str k S w c we).1)
 
-pub rounds_meet_circles_once : Rounds-meet-circles-once
+pub rounds_meet_circles_once : RoundsMeetCirclesOnce
 unfolding rounds
 rounds_meet_circles_once g o le t str k =
     record {

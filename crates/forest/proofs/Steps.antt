@@ -13,12 +13,12 @@ use Rattle.theory.proofs.Counting.{same_or_less}
 use Rattle.theory.proofs.Orders.{weakest_is, WeakestIs}
 use Rattle.theory.proofs.Own.{innermost_drops_all}
 use Rattle.theory.proofs.Sets.{same_set}
-use Rattle.forest.specs.RoundLaws.{Innermost-by-rounds, Peeling-is-rounds, Rounds-by-steps}
+use Rattle.forest.specs.RoundLaws.{InnermostByRounds, PeelingIsRounds, RoundsBySteps}
 use Rattle.forest.specs.Rounds.{circle, key, left, own, rounds}
 use Rattle.forest.proofs.Climbing.{inner_tells}
 use Rattle.forest.proofs.Rounds.{circle_circle, circle_left, in_rounds, key_weakest, left_next, left_within, own_circle, own_dropped, own_of_circle, round_weakest, rounds_in, rounds_meet_circles_once, weakest_found}
 
-pub rounds_by_steps : Rounds-by-steps
+pub rounds_by_steps : RoundsBySteps
 unfolding circle
 rounds_by_steps g o le t str k i = (
   (λ w we.
@@ -55,11 +55,11 @@ module _ (g : Graph) (o : Lawful g) (le : Relation) (t : Order le) (str : Strict
       let two : peel g le k m (core g k (without (left g le k i) (key g le k i))) ≡ map (λ i. (key g le k i, component g (left g le k i) (key g le k i))) (range_with_len (i + 1) n) = ap (peel g le k m) (sym (left_next g o le t str k i (key g le k i) we.0)) ∙ peel_placed n m (suc i) (omega arith) (omega arith) ∙ ap (λ z. map (λ i. (key g le k i, component g (left g le k i) (key g le k i))) (range_with_len z n)) next_place in
       one ∙ ap (λ xs. (key g le k i, component g (left g le k i) (key g le k i)) ∷ xs) two
 
-pub peeling_is_rounds : Peeling-is-rounds
+pub peeling_is_rounds : PeelingIsRounds
 unfolding left f
 peeling_is_rounds g o le t str k = peel_placed g o le t str k (rounds g le k) g.size 0 (omega arith) (rounds_meet_circles_once g o le t str k).few
 
-pub innermost_by_rounds : Innermost-by-rounds
+pub innermost_by_rounds : InnermostByRounds
 unfolding circle
 innermost_by_rounds g o le t str k i l = (
   (λ inner. (same ∙ (innermost_drops_all g o le t str k C (key g le k i) c.0 c.1).0 inner, (inner_tells g o le t str k i l).0 inner)),

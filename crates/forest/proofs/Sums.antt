@@ -8,7 +8,7 @@ use Rattle.theory.specs.Sets.{bit, count, Relation, Set, total, ◌∈◌}
 use Rattle.theory.proofs.Counting.{count_none, count_one}
 use Rattle.theory.proofs.Sets.{false_since}
 use Rattle.theory.proofs.Totals.{count_total, rows_columns, total_row, total_same, total_zero}
-use Rattle.forest.specs.HolderLaws.{Adding-up-is-whole, Sizes-add-up}
+use Rattle.forest.specs.HolderLaws.{AddingUpIsWhole, SizesAddUp}
 use Rattle.forest.specs.Holders.{holder, is, total_from}
 use Rattle.forest.specs.Rounds.{circle, key, own, rounds}
 use Rattle.forest.proofs.Holders.{circle_round, holder_some, is_tells, key_held, nest, parts}
@@ -69,7 +69,7 @@ module _ (g : Graph) (o : Lawful g) (le : Relation) (t : Order le) (str : Strict
         | inr x ↦ let (i, l, e, n) = x in inr (f, count_one _ (rounds g le k) i l (and_from _ _ ((is_tells j (holder g le k i)).1 e) n) (λ h _ q. let (a, b) = and_parts _ _ q in child_once h i v ((is_tells j (holder g le k h)).0 a) e b n))
       ]
 
-pub sizes_add_up : Sizes-add-up
+pub sizes_add_up : SizesAddUp
 sizes_add_up g o le t str k j bj =
     omega (arith, sum_of_parts (circle g le k j) (own g le k j) (λ i v. is j (holder g le k i) && circle g le k i v) (rounds g le k) g.size (one_member g o le t str k j bj), total_same (λ i. count (λ v. is j (holder g le k i) && circle g le k i v) g.size) (λ i. cond (is j (holder g le k i)) (count (circle g le k i) g.size) 0) (rounds g le k) (λ i _. count_guard (is j (holder g le k i)) (circle g le k i) g.size))
 
@@ -108,7 +108,7 @@ from_step f j (suc n) l = go (cases_eq j n) (from_step f j n)
         omega (arith, from_suc f j n, from_suc f (suc j) n, takes j (omega arith), past, one, two, ap f e)
     go (inr d) ih = omega (arith, ih (omega arith), from_suc f j n, from_suc f (suc j) n, takes j (omega arith), takes (suc j) (omega arith))
 
-pub adding_up_is_whole : Adding-up-is-whole
+pub adding_up_is_whole : AddingUpIsWhole
 adding_up_is_whole g o le t str k own_of whole sum h l = (
   omega (arith, from_end F (rounds g le k)),
   (λ j b. omega (arith, from_step F j (rounds g le k) b)),

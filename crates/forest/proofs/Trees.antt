@@ -13,7 +13,7 @@ use Rattle.theory.proofs.Lists.{kept_all, kept_among, kept_none}
 use Rattle.theory.proofs.Numbers.{number_tells}
 use Rattle.forest.specs.Picking.{of_number}
 use Rattle.forest.specs.Rounds.{left, rounds}
-use Rattle.forest.specs.TreeLaws.{Vertices-for-k}
+use Rattle.forest.specs.TreeLaws.{VerticesForK}
 use Rattle.forest.specs.Trees.{largest, tree, tree_for, trees_from, Vertex, vertex_at}
 use Rattle.forest.proofs.Places.{among_placed, largest_is, placed_among}
 use Rattle.forest.proofs.Rounds.{rounds_in}
@@ -80,7 +80,7 @@ module _ (g : Graph) (o : Lawful g) (le : Relation) (t : Order le) (str : Strict
     | inr h ↦ of_in g le k 1 (largest (core_number g) g.size) l (omega arith)
   ]
 
-pub vertices_for_k : Vertices-for-k
+pub vertices_for_k : VerticesForK
 unfolding tree_for
 vertices_for_k g o le t str k l = of_tree g o le t str k l
 

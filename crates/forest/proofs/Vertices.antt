@@ -17,7 +17,7 @@ use Rattle.forest.specs.HolderLaws.{Held}
 use Rattle.forest.specs.Holders.{holder, HolderOf}
 use Rattle.forest.specs.Picking.{of_number, under_of}
 use Rattle.forest.specs.Rounds.{circle, key, own, rounds}
-use Rattle.forest.specs.TreeLaws.{Holder-is-found, Tree-is-right}
+use Rattle.forest.specs.TreeLaws.{HolderIsFound, TreeIsRight}
 use Rattle.forest.specs.Trees.{Before, largest, named, tree, tree_for, TreeOf, trees_from, Vertex, vertex_at, VertexOf}
 use Rattle.forest.proofs.Climbing.{under_is}
 use Rattle.forest.proofs.Holders.{holders_are_smallest, larger, nest_key}
@@ -125,7 +125,7 @@ part_of_tree g le str us vs tu tv x m =
     let (z, n, e, vo') = tv.every x.k S l vo.circled in
     subst (λ z. z among vs) (vertex_one g le str S z x e vo' vo) n
 
-pub tree_is_right : Tree-is-right
+pub tree_is_right : TreeIsRight
 tree_is_right g o le t str =
     let this : TreeOf g le (tree g le) = tree_of g o le t str in
     (this, λ vs tv. pairwise_same (Before le) (before_one_way le) vs (tree g le) tv.rising this.rising (part_of_tree g le str vs (tree g le) tv this) (part_of_tree g le str (tree g le) vs this tv))
@@ -155,6 +155,6 @@ module _ (g : Graph) (o : Lawful g) (le : Relation) (t : Order le) (str : Strict
 Looked : Graph → Relation → ℕ → ℕ → List Vertex → Type 0
 Looked g le k w vs = Decides (any_of (λ x. eqb x.weakest w) vs) ((S : Set) × Circle g le k S × Weakest le S w) × ((S : Set) → Circle g le k S → Weakest le S w → HolderOf g le k S (under_of vs w))
 
-pub holder_is_found : Holder-is-found
+pub holder_is_found : HolderIsFound
 unfolding Looked
 holder_is_found g o le t str k w l = subst (Looked g le k w) (sym (of_tree g o le t str k l)) (decides g o le t str k w, under_holder g o le t str k w)

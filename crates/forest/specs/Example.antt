@@ -1,7 +1,7 @@
 -- The tree of the bow tie, computed. Assumes nothing.
 --     vertex k w h ps             the vertex with these parts
 --     grown                       a proof that names it on its `unfolding` line computes with rounds and trees
---     Bow-tie-tree                its vertices, its ten entries, what is picked from them, and the holders
+--     BowTieTree                its vertices, its ten entries, what is picked from them, and the holders
 use Rattle.std.specs.Prelude.{◌≡◌, ℕ, false, List, [], ◌∷◌}
 use Rattle.std.proofs.Math.Option.{Option, some, none}
 use Rattle.theory.specs.Sets.{any_of}
@@ -28,8 +28,8 @@ bow_tie_vertices =
     ∷ vertex 2 2 (some 0) (2 ∷ 3 ∷ 4 ∷ [])
     ∷ []
 
-abbrev pub Bow-tie-tree : Type 0
-Bow-tie-tree =
+abbrev pub BowTieTree : Type 0
+BowTieTree =
     TreeOf bow_tie by_points bow_tie_vertices
     × (entries bow_tie_vertices ≡ 10)
     × (pick 5 bow_tie_vertices 2 9 every ≡ (0, 0 ∷ 1 ∷ 2 ∷ 3 ∷ 4 ∷ []) ∷ (2, 2 ∷ 3 ∷ 4 ∷ []) ∷ [])

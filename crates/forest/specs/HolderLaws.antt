@@ -1,8 +1,8 @@
 -- The laws of holders, and sums along them. Assumes nothing.
 --     Held g le k                 what holds of the holders for k
---     Holders-are-smallest        a holder is the last earlier round whose circle has the key, and the smallest other circle that holds the circle
---     Sizes-add-up                a circle has as many members as are its own and in the circles that it is the holder of
---     Adding-up-is-whole          adding up, the last round first: before round j is added to its holder, its own sum is whole
+--     HoldersAreSmallest        a holder is the last earlier round whose circle has the key, and the smallest other circle that holds the circle
+--     SizesAddUp                a circle has as many members as are its own and in the circles that it is the holder of
+--     AddingUpIsWhole          adding up, the last round first: before round j is added to its holder, its own sum is whole
 use Rattle.std.specs.Prelude.{◌≡◌, ℕ, suc, ◌+◌, ◌<◌, ◌≤◌, ◌⊎◌}
 use Rattle.std.proofs.Math.Option.{some, none}
 use Rattle.theory.specs.Sets.{Set, Relation, ◌∈◌, ◌⊆◌, count, total}
@@ -30,16 +30,16 @@ pub record Held (g : Graph) (le : Relation) (k : ℕ) : Type 0 where
   pub reaching : (i v : ℕ) → v ∈ circle g le k i → Reaches g le k (round g le k v) i
   pub reached : (i v : ℕ) → v ∈ core g k (everyone g) → Reaches g le k (round g le k v) i → v ∈ circle g le k i
 
-abbrev pub Holders-are-smallest : Type 0
-Holders-are-smallest = (g : Graph) → Lawful g → (le : Relation) → Order le → Strict le → (k : ℕ) → Held g le k
+abbrev pub HoldersAreSmallest : Type 0
+HoldersAreSmallest = (g : Graph) → Lawful g → (le : Relation) → Order le → Strict le → (k : ℕ) → Held g le k
 
-abbrev pub Sizes-add-up : Type 0
-Sizes-add-up =
+abbrev pub SizesAddUp : Type 0
+SizesAddUp =
     (g : Graph) → Lawful g → (le : Relation) → Order le → Strict le → (k j : ℕ) → j < rounds g le k →
     count (circle g le k j) g.size ≡ count (own g le k j) g.size + total (held_by g le k j (λ i. count (circle g le k i) g.size)) (rounds g le k)
 
-abbrev pub Adding-up-is-whole : Type 0
-Adding-up-is-whole =
+abbrev pub AddingUpIsWhole : Type 0
+AddingUpIsWhole =
     (g : Graph) → Lawful g → (le : Relation) → Order le → Strict le → (k : ℕ) (own_of whole : ℕ → ℕ) →
     ((h : ℕ) → h < rounds g le k → whole h ≡ own_of h + total (held_by g le k h whole) (rounds g le k)) →
     (h : ℕ) → h < rounds g le k →

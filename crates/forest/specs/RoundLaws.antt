@@ -1,10 +1,10 @@
 -- The laws of rounds. Assumes nothing.
 --     Rounded g le k              what holds of the rounds for k
---     Rounds-meet-circles-once    the rounds meet every circle once, rising, and drop each person of the core once
---     Rounds-by-steps             a loop that takes the weakest of those left does the rounds, and ends after the last
---     Peeling-is-rounds           peeling is the rounds in order
---     Rounds-list                 the listing is the last r of the rounds that are chosen, each with its key and its circle's members
---     Innermost-by-rounds         a circle is innermost if it is dropped whole, if as many are dropped as it has members, and if it is no circle's holder
+--     RoundsMeetCirclesOnce    the rounds meet every circle once, rising, and drop each person of the core once
+--     RoundsBySteps             a loop that takes the weakest of those left does the rounds, and ends after the last
+--     PeelingIsRounds           peeling is the rounds in order
+--     RoundsList                 the listing is the last r of the rounds that are chosen, each with its key and its circle's members
+--     InnermostByRounds         a circle is innermost if it is dropped whole, if as many are dropped as it has members, and if it is no circle's holder
 use Rattle.std.specs.Prelude.{◌≡◌, ℕ, suc, ◌<◌, ◌≤◌, map, filter, ◌≢◌}
 use Rattle.std.proofs.Math.Option.{some}
 use Rattle.std.specs.List.{range_with_len}
@@ -35,29 +35,29 @@ pub record Rounded (g : Graph) (le : Relation) (k : ℕ) : Type 0 where
   pub ended : (i u : ℕ) → u ∈ left g le k i → (i < rounds g le k) × (u ∈ core g k (everyone g))
   pub few : rounds g le k ≤ g.size
 
-abbrev pub Rounds-meet-circles-once : Type 0
-Rounds-meet-circles-once = (g : Graph) → Lawful g → (le : Relation) → Order le → Strict le → (k : ℕ) → Rounded g le k
+abbrev pub RoundsMeetCirclesOnce : Type 0
+RoundsMeetCirclesOnce = (g : Graph) → Lawful g → (le : Relation) → Order le → Strict le → (k : ℕ) → Rounded g le k
 
-abbrev pub Rounds-by-steps : Type 0
-Rounds-by-steps =
+abbrev pub RoundsBySteps : Type 0
+RoundsBySteps =
     (g : Graph) → Lawful g → (le : Relation) → Order le → Strict le → (k i : ℕ) →
     ((w : ℕ) → Weakest le (left g le k i) w → (i < rounds g le k) × (key g le k i ≡ w) × (circle g le k i ≡ component g (left g le k i) w) × (left g le k (suc i) ≡ core g k (without (left g le k i) w)) × (own g le k i ≡ dropped g k (left g le k i) w))
     × (((u : ℕ) → u ∈ left g le k i → ⊥) → rounds g le k ≤ i)
 
-abbrev pub Peeling-is-rounds : Type 0
-Peeling-is-rounds =
+abbrev pub PeelingIsRounds : Type 0
+PeelingIsRounds =
     (g : Graph) → Lawful g → (le : Relation) → Order le → Strict le → (k : ℕ) →
     peel g le k g.size (core g k (everyone g)) ≡ map (λ i. (key g le k i, circle g le k i)) (range_with_len 0 (rounds g le k))
 
-abbrev pub Innermost-by-rounds : Type 0
-Innermost-by-rounds =
+abbrev pub InnermostByRounds : Type 0
+InnermostByRounds =
     (g : Graph) → Lawful g → (le : Relation) → Order le → Strict le → (k i : ℕ) → i < rounds g le k →
     (Innermost (Circle g le k) (circle g le k i) → (own g le k i ≡ circle g le k i) × ((j : ℕ) → j < rounds g le k → holder g le k j ≢ some i))
     × (own g le k i ≡ circle g le k i → Innermost (Circle g le k) (circle g le k i))
     × (count (own g le k i) g.size ≡ count (circle g le k i) g.size → Innermost (Circle g le k) (circle g le k i))
     × (((j : ℕ) → j < rounds g le k → holder g le k j ≢ some i) → Innermost (Circle g le k) (circle g le k i))
 
-abbrev pub Rounds-list : Type 0
-Rounds-list =
+abbrev pub RoundsList : Type 0
+RoundsList =
     (g : Graph) → Lawful g → (le : Relation) → Order le → Strict le → (k r : ℕ) (choice : Choice) →
     listing g le k r choice ≡ map (λ i. (key g le k i, members (circle g le k i) g.size)) (last r (filter (chosen_round g le k choice) (range_with_len 0 (rounds g le k))))

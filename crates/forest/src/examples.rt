@@ -1,8 +1,8 @@
 // The tree of the bow tie, computed and turned into a theorem.
-ghost use Rattle.forest.specs.Example.{Bow-tie-tree};
+ghost use Rattle.forest.specs.Example.{BowTieTree};
 
 pub fn bow_tie_tree() -> u8
-    ensures { Bow-tie-tree }
+    ensures { BowTieTree }
 {
     0
 }

@@ -1,20 +1,20 @@
 // Theorems on holders, and on sums along them.
-ghost use Rattle.forest.specs.HolderLaws.{Adding-up-is-whole, Holders-are-smallest, Sizes-add-up};
+ghost use Rattle.forest.specs.HolderLaws.{AddingUpIsWhole, HoldersAreSmallest, SizesAddUp};
 
 pub fn holders_are_smallest() -> u8
-    ensures { Holders-are-smallest }
+    ensures { HoldersAreSmallest }
 {
     0
 }
 
 pub fn sizes_add_up() -> u8
-    ensures { Sizes-add-up }
+    ensures { SizesAddUp }
 {
     0
 }
 
 pub fn adding_up_is_whole() -> u8
-    ensures { Adding-up-is-whole }
+    ensures { AddingUpIsWhole }
 {
     0
 }

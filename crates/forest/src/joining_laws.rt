@@ -1,20 +1,20 @@
 // Theorems on joining parts and finding their roots, the last round first.
-ghost use Rattle.forest.specs.JoiningLaws.{Finding-ends-at-root, Joining-steps-back, Roots-end-holders};
+ghost use Rattle.forest.specs.JoiningLaws.{FindingEndsAtRoot, JoiningStepsBack, RootsEndHolders};
 
 pub fn roots_end_holders() -> u8
-    ensures { Roots-end-holders }
+    ensures { RootsEndHolders }
 {
     0
 }
 
 pub fn joining_steps_back() -> u8
-    ensures { Joining-steps-back }
+    ensures { JoiningStepsBack }
 {
     0
 }
 
 pub fn finding_ends_at_root() -> u8
-    ensures { Finding-ends-at-root }
+    ensures { FindingEndsAtRoot }
 {
     0
 }

@@ -1,32 +1,32 @@
 // Theorems on the rounds of peeling.
-ghost use Rattle.forest.specs.RoundLaws.{Rounds-list, Innermost-by-rounds, Peeling-is-rounds, Rounds-by-steps, Rounds-meet-circles-once};
+ghost use Rattle.forest.specs.RoundLaws.{RoundsList, InnermostByRounds, PeelingIsRounds, RoundsBySteps, RoundsMeetCirclesOnce};
 
 pub fn rounds_meet_circles_once() -> u8
-    ensures { Rounds-meet-circles-once }
+    ensures { RoundsMeetCirclesOnce }
 {
     0
 }
 
 pub fn rounds_by_steps() -> u8
-    ensures { Rounds-by-steps }
+    ensures { RoundsBySteps }
 {
     0
 }
 
 pub fn peeling_is_rounds() -> u8
-    ensures { Peeling-is-rounds }
+    ensures { PeelingIsRounds }
 {
     0
 }
 
 pub fn innermost_by_rounds() -> u8
-    ensures { Innermost-by-rounds }
+    ensures { InnermostByRounds }
 {
     0
 }
 
 pub fn rounds_list() -> u8
-    ensures { Rounds-list }
+    ensures { RoundsList }
 {
     0
 }

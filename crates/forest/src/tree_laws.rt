@@ -1,44 +1,44 @@
 // Theorems on the tree of a network, and on what is read from it.
-ghost use Rattle.forest.specs.TreeLaws.{Children-stand-later, Entries-are-core-numbers, Holder-is-found, Picking-lists, Tree-is-right, Vertices-for-k, Vertices-gather-circles};
+ghost use Rattle.forest.specs.TreeLaws.{ChildrenStandLater, EntriesAreCoreNumbers, HolderIsFound, PickingLists, TreeIsRight, VerticesForK, VerticesGatherCircles};
 
 pub fn tree_is_right() -> u8
-    ensures { Tree-is-right }
+    ensures { TreeIsRight }
 {
     0
 }
 
 pub fn vertices_for_k() -> u8
-    ensures { Vertices-for-k }
+    ensures { VerticesForK }
 {
     0
 }
 
 pub fn entries_are_core_numbers() -> u8
-    ensures { Entries-are-core-numbers }
+    ensures { EntriesAreCoreNumbers }
 {
     0
 }
 
 pub fn vertices_gather_circles() -> u8
-    ensures { Vertices-gather-circles }
+    ensures { VerticesGatherCircles }
 {
     0
 }
 
 pub fn children_stand_later() -> u8
-    ensures { Children-stand-later }
+    ensures { ChildrenStandLater }
 {
     0
 }
 
 pub fn picking_lists() -> u8
-    ensures { Picking-lists }
+    ensures { PickingLists }
 {
     0
 }
 
 pub fn holder_is_found() -> u8
-    ensures { Holder-is-found }
+    ensures { HolderIsFound }
 {
     0
 }

@@ -2,7 +2,7 @@
 use Rattle.std.proofs.Common.{◌≡◌, ℕ, ◌<◌, true, [], ◌∷◌, refl, ap, subst, arith}
 use Rattle.std.proofs.lemmas.Bool.{both_ways}
 use Rattle.theory.specs.Cores.{circle_at, component, core_number, IsCore}
-use Rattle.theory.specs.Example.{Bow-tie-core-numbers, Bow-tie-listed, bow_tie, by_marks, by_points, computed, Fallen-neighbour-counts, pairs, Pairs-listed, these, Triangle-is-no-circle, Two-parts-are-no-circle}
+use Rattle.theory.specs.Example.{BowTieCoreNumbers, BowTieListed, bow_tie, by_marks, by_points, computed, FallenNeighbourCounts, pairs, PairsListed, these, TriangleIsNoCircle, TwoPartsAreNoCircle}
 use Rattle.theory.specs.Graphs.{degree, Lawful}
 use Rattle.theory.specs.Listing.{Choice, every, innermost, listing, Lists}
 use Rattle.theory.specs.Orders.{StrictOrder, Weakest}
@@ -51,7 +51,7 @@ three_every : listing bow_tie by_points 3 9 every ≡ []
 unfolding computed
 three_every = refl
 
-pub bow_tie_listed : Bow-tie-listed
+pub bow_tie_listed : BowTieListed
 bow_tie_listed =
     (rw one_every at (bow_tie_lem 1 9 every), rw one_innermost at (bow_tie_lem 1 9 innermost), rw two_every at (bow_tie_lem 2 9 every), rw two_strongest at (bow_tie_lem 2 1 every), rw three_every at (bow_tie_lem 3 9 every))
 
@@ -59,17 +59,17 @@ pairs_computed : listing pairs by_marks 1 9 every ≡ (0, 0 ∷ 1 ∷ []) ∷ (2
 unfolding computed
 pairs_computed = refl
 
-pub pairs_listed : Pairs-listed
+pub pairs_listed : PairsListed
 pairs_listed = rw pairs_computed at (listing_is_right pairs pairs_lawful by_marks marks_order.0 marks_order.1 1 9 every).0
 
-pub bow_tie_core_numbers : Bow-tie-core-numbers
+pub bow_tie_core_numbers : BowTieCoreNumbers
 unfolding computed
 bow_tie_core_numbers u l = subst (IsCore bow_tie u) (all_among (λ v. core_number bow_tie v ≡ 2) (0 ∷ 1 ∷ 2 ∷ 3 ∷ 4 ∷ []) u (refl, (refl, (refl, (refl, (refl, tt))))) (five u l)) (core_number_is_greatest bow_tie u l).0
   where
     five : (u : ℕ) → u < 5 → u among (0 ∷ 1 ∷ 2 ∷ 3 ∷ 4 ∷ [])
     five u l = ((members_rise (λ _. true) 5).1 u).1 l refl
 
-pub triangle_is_no_circle : Triangle-is-no-circle
+pub triangle_is_no_circle : TriangleIsNoCircle
 unfolding computed
 triangle_is_no_circle c =
     let S : Set = these (0 ∷ 1 ∷ 2 ∷ []) in
@@ -77,7 +77,7 @@ triangle_is_no_circle c =
     let e : S ≡ circle_at bow_tie by_points 2 0 = (circle_known bow_tie bow_tie_lawful by_points points_order.0 points_order.1 2 S 0 c we).1 in
     both_ways (S 3) refl (ap (λ X. X 3) e)
 
-pub two_parts_are_no_circle : Two-parts-are-no-circle
+pub two_parts_are_no_circle : TwoPartsAreNoCircle
 unfolding computed
 two_parts_are_no_circle c =
     let S : Set = these (0 ∷ 1 ∷ 2 ∷ 3 ∷ []) in
@@ -87,6 +87,6 @@ few_left : degree bow_tie (these (1 ∷ 2 ∷ 3 ∷ 4 ∷ [])) 1 ≡ 1
 unfolding computed
 few_left = refl
 
-pub fallen_neighbour_counts : Fallen-neighbour-counts
+pub fallen_neighbour_counts : FallenNeighbourCounts
 unfolding any_of
 fallen_neighbour_counts = ((λ ti. omega (arith, ti 1 refl, few_left)), (λ g le k S v m l c. omega (arith, c.tight v m)))

@@ -1,7 +1,7 @@
 -- The circles are the components of cores, and the two forms of a circle agree where no two persons are level.
 use Rattle.std.proofs.Common.{◌≡◌, ℕ, ◌<◌, ◌≤◌, true, subst, inl, inr, arith}
 use Rattle.std.proofs.lemmas.Bool.{both_ways, cases_Bool}
-use Rattle.theory.specs.CircleLaws.{Circle-forms-agree}
+use Rattle.theory.specs.CircleLaws.{CircleFormsAgree}
 use Rattle.theory.specs.Circles.{Circle, Group, Level, LevelCircle, SameWeakest}
 use Rattle.theory.specs.Cores.{above, circle_at, core}
 use Rattle.theory.specs.Graphs.{Connected, Graph, Inside, Lawful, Tight}
@@ -83,7 +83,7 @@ from_level g le t k S c =
         let gr : Group g k S' = record { inside = ins; someone = (w, we'.0); connected = con; tight = ti } in
         both_ways (S v) f (c.whole S' gr part (w, w, we, we', le_self le t w, le_self le t w) v m)
 
-pub circle_forms_agree : Circle-forms-agree
+pub circle_forms_agree : CircleFormsAgree
 circle_forms_agree g le t str k S = (to_level g le str k S, from_level g le t k S)
 
 module _ (g : Graph) (o : Lawful g) (le : Relation) (t : Order le) (str : Strict le) (k : ℕ) where

@@ -2,7 +2,7 @@
 use Rattle.std.proofs.Common.{◌≡◌, ℕ, ◌-◌, ◌<◌, true, ◌&&◌, ◌||◌, eqb, ◌⊎◌, refl, inl, inr, arith}
 use Rattle.std.proofs.lemmas.Bool.{and_from, and_parts, eq-eqb, eqb-true, or_cases, or_left, or_right}
 use Rattle.theory.specs.Circles.{Group}
-use Rattle.theory.specs.CoreLaws.{Component-is-greatest}
+use Rattle.theory.specs.CoreLaws.{ComponentIsGreatest}
 use Rattle.theory.specs.Cores.{component, core, spread}
 use Rattle.theory.specs.Graphs.{Connected, Graph, here, Inside, Lawful, step, Tight, Walk}
 use Rattle.theory.specs.Sets.{any, below, count, Set, ◌∈◌, ◌⊆◌}
@@ -141,5 +141,5 @@ core_group g o k X v m =
     let l : v < g.size = core_within g k X v m in
     record { inside = component_within g o D v l m; someone = (v, component_holds g o D v l m); connected = component_connected g o D v l m; tight = component_tight g o D v l m k (core_tight g k X) }
 
-pub component_is_greatest : Component-is-greatest
+pub component_is_greatest : ComponentIsGreatest
 component_is_greatest g o X w l x = (component_holds g o X w l x, component_part g o X w l x, component_connected g o X w l x, component_greatest g o X w l x, component_tight g o X w l x)

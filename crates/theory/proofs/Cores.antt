@@ -1,7 +1,7 @@
 -- The core is inside, tight, and the greatest such.
 use Rattle.std.proofs.Common.{◌≡◌, ℕ, ◌<◌, ◌≤◌, true, ◌&&◌, leb, ◌⊎◌, inl, inr, arith}
 use Rattle.std.proofs.lemmas.Bool.{and_from, and_parts, le-leb, leb-true, lt-ltb, ltb-true}
-use Rattle.theory.specs.CoreLaws.{Core-is-greatest}
+use Rattle.theory.specs.CoreLaws.{CoreIsGreatest}
 use Rattle.theory.specs.Cores.{core, everyone, prune}
 use Rattle.theory.specs.Graphs.{degree, Graph, Inside, Tight}
 use Rattle.theory.specs.Sets.{below, count, Set, ◌∈◌, ◌⊆◌}
@@ -79,5 +79,5 @@ pub everyone_within : (g : Graph) → Inside g (everyone g)
 unfolding everyone
 everyone_within g u m = ltb-true u g.size m
 
-pub core_is_greatest : Core-is-greatest
+pub core_is_greatest : CoreIsGreatest
 core_is_greatest g k X = (core_within g k X, core_part g k X, core_tight g k X, core_greatest g k X)

@@ -2,11 +2,11 @@
 use Rattle.std.proofs.Common.{◌≡◌, ℕ, true, not, ◌&&◌, ◌||◌, eqb, ltb, leb, ◌≢◌, ◌⊎◌, List, sym, refl, inl, inr, arith}
 use Rattle.std.proofs.lemmas.Bool.{and_from, and_parts, cases_lt, eqb-false, le-leb, leb-true, ltb-true, ne_eqb, not_from_false, not-true, or_cases, or_left, or_right}
 use Rattle.theory.specs.Graphs.{from_pairs, joins}
-use Rattle.theory.specs.ListingLaws.{Data-is-lawful}
+use Rattle.theory.specs.ListingLaws.{DataIsLawful}
 use Rattle.theory.specs.Orders.{by_grade}
 use Rattle.theory.proofs.Sets.{false_since}
 
-pub data_is_lawful : Data-is-lawful
+pub data_is_lawful : DataIsLawful
 unfolding from_pairs by_grade
 data_is_lawful = ((λ n ps. record { symmetric = turn n ps; within = λ u v h. ltb-true u n (and_parts (ltb u n) _ (and_parts _ _ h).0).0; apart = λ u. false_since _ (λ h. eqb-false u u (not-true (eqb u u) (and_parts _ _ (and_parts _ _ h).1).0) refl) }), (λ grade. record { total = tot grade; chain = λ u v w a b. le-leb (grade u) (grade w) (omega (arith, leb-true _ _ a, leb-true _ _ b)) }))
   where

@@ -4,7 +4,7 @@ use Rattle.std.proofs.lemmas.Bool.{and_from, and_parts, both_ways, cases_Bool, o
 use Rattle.theory.specs.Cores.{component, core}
 use Rattle.theory.specs.Graphs.{Graph, Inside, Lawful, Tight}
 use Rattle.theory.specs.Peeling.{dropped}
-use Rattle.theory.specs.PeelingLaws.{Round-stays-in-component}
+use Rattle.theory.specs.PeelingLaws.{RoundStaysInComponent}
 use Rattle.theory.specs.Sets.{both_of, minus, Set, without, ◌∈◌, ◌⊆◌}
 use Rattle.theory.proofs.Components.{component_closed, component_holds, component_part}
 use Rattle.theory.proofs.Cores.{core_greatest, core_mono, core_part, core_tight, core_within, degree_mono}
@@ -66,6 +66,6 @@ module _ (g : Graph) (o : Lawful g) (k : ℕ) (R : Set) (w : ℕ) (ins : Inside 
       back : minus C (core g k (without C w)) ⊆ minus R (core g k (without R w))
       back v m = let (a, f) = minus_from C _ v m in minus_in R _ v (part v a) (false_since _ (λ n. both_ways _ f (rest v n a)))
 
-pub round_stays_in_component : Round-stays-in-component
+pub round_stays_in_component : RoundStaysInComponent
 unfolding C
 round_stays_in_component g o k R w ins ti x = (splits g o k R w ins ti x, dropped_part g o k R w ins ti x, dropped_same g o k R w ins ti x)

@@ -8,7 +8,7 @@ use Rattle.theory.specs.Circles.{Circle, LevelCircle}
 use Rattle.theory.specs.Cores.{circle_at, core, everyone}
 use Rattle.theory.specs.Graphs.{Graph, Lawful}
 use Rattle.theory.specs.Listing.{Choice, Chosen, Entered, Entry, entry, every, innermost, is_chosen, is_name, last, LevelLists, listing, Lists, names, ranked, Wanted}
-use Rattle.theory.specs.ListingLaws.{Listing-is-right, Peeling-lists}
+use Rattle.theory.specs.ListingLaws.{ListingIsRight, PeelingLists}
 use Rattle.theory.specs.Orders.{Below, by_number, Order, Strict, Weakest}
 use Rattle.theory.specs.Peeling.{peel}
 use Rattle.theory.specs.Sets.{◌among◌, ListOf, members, Pairwise, Relation, Set, ◌∈◌}
@@ -91,7 +91,7 @@ module _ (g : Graph) (o : Lawful g) (le : Relation) (t : Order le) (str : Strict
     refilled [] a = refl
     refilled (e ∷ es) a = let p : e ≡ entry g le k e.0 = (entered_wanted e a.0).1 in let q : es ≡ map (entry g le k) (map (λ e. e.0) es) = refilled es a.1 in cc
 
-pub listing_is_right : Listing-is-right
+pub listing_is_right : ListingIsRight
 unfolding listing
 listing_is_right g o le t str k r ch = (
   entered_names g o le t str k ch r (names g le (by_number le) k r ch) right.0,
@@ -101,7 +101,7 @@ listing_is_right g o le t str k r ch = (
     right : LevelLists g le (by_number le) k r ch (names g le (by_number le) k r ch) × ((ws : List ℕ) → LevelLists g le (by_number le) k r ch ws → ws ≡ names g le (by_number le) k r ch)
     right = level_listing_is_right g o le t (by_number le) (by_number_lem le t) k r ch
 
-pub peeling_lists : Peeling-lists
+pub peeling_lists : PeelingLists
 unfolding listing names last is_chosen entry
 peeling_lists g o le t str k r = ap (λ xs. map (entry g le k) (drop (length xs - r) xs)) same ∙ sym (drop-map (entry g le k) (length keys - r) keys) ∙ ap (λ n. drop (n - r) (map (entry g le k) keys)) (length-map es (λ e. e.0) ∙ sym (length-map es shown)) ∙ ap (drop (length (map shown es) - r)) (map-map (entry g le k) (λ e. e.0) es ∙ map_same _ _ es as_shown)
   where

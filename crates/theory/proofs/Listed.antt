@@ -6,7 +6,7 @@ use Rattle.std.proofs.lemmas.List.{length-drop}
 use Rattle.std.proofs.lemmas.Bool.{both_ways, cases_lt}
 use Rattle.theory.specs.Graphs.{Graph, Lawful}
 use Rattle.theory.specs.Listing.{Choice, every, innermost, is_chosen, last, LevelLists, names, ranked, Wanted}
-use Rattle.theory.specs.ListingLaws.{Level-listing-is-right}
+use Rattle.theory.specs.ListingLaws.{LevelListingIsRight}
 use Rattle.theory.specs.Orders.{Order, Ranking}
 use Rattle.theory.specs.Sets.{◌among◌, Pairwise, Relation}
 use Rattle.theory.proofs.Lists.{all_among, among_drop, among_kept, pairwise_drop, pairwise_kept}
@@ -63,5 +63,5 @@ module _ (g : Graph) (o : Lawful g) (le : Relation) (t : Order le) (wk : Relatio
             has : w among xs
             has = among_kept (is_chosen g le wk k ch) (ranked wk g.size) w (ranked_holds wk rk g.size w (person ch w want)) ((chosen_tells g o le t wk rk k ch w).1 want)
 
-pub level_listing_is_right : Level-listing-is-right
+pub level_listing_is_right : LevelListingIsRight
 level_listing_is_right g o le t wk rk k r ch = (lists g o le t wk rk k r ch, λ ws a. pinned g o le t wk rk k r ch ws (names g le wk k r ch) a (lists g o le t wk rk k r ch))

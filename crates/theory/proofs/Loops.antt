@@ -4,7 +4,7 @@ use Rattle.std.proofs.ByRecursion.{All-weaker}
 use Rattle.std.proofs.lemmas.Bool.{and_from, and_parts}
 use Rattle.theory.specs.Cores.{component, core, core_number, everyone}
 use Rattle.theory.specs.Graphs.{degree, Inside, Tight}
-use Rattle.theory.specs.LoopLaws.{Cascade-ends-at-core, Cascade-keeps-core, Core-number-is-met, Degree-by-list, Degree-falls-by-one, drops, Search-ends-at-component, settled}
+use Rattle.theory.specs.LoopLaws.{CascadeEndsAtCore, CascadeKeepsCore, CoreNumberIsMet, DegreeByList, DegreeFallsByOne, drops, SearchEndsAtComponent, settled}
 use Rattle.theory.specs.Sets.{bit, without, ◌∈◌}
 use Rattle.theory.proofs.Components.{component_connected, component_holds, component_part, component_takes}
 use Rattle.theory.proofs.Cores.{core_greatest, core_part, core_same, core_tight, core_within, degree_mono}
@@ -14,7 +14,7 @@ use Rattle.theory.proofs.Numbers.{number_tells}
 use Rattle.theory.proofs.Sets.{same_set, same_test, without_from, without_in}
 use Rattle.theory.proofs.Walks.{walk_closed}
 
-pub cascade_keeps_core : Cascade-keeps-core
+pub cascade_keeps_core : CascadeKeepsCore
 cascade_keeps_core g k X = (few, tight, twice)
   where
     few : (v : ℕ) → degree g X v < k → core g k (without X v) ≡ core g k X
@@ -33,16 +33,16 @@ cascade_keeps_core g k X = (few, tight, twice)
         let (a, b) = without_from X w u (core_part g k (without X w) u m) in
         without_in (core g k X) w u (core_greatest g k X (core g k (without X w)) (core_within g k (without X w)) (λ y n. (without_from X w y (core_part g k (without X w) y n)).0) (core_tight g k (without X w)) u m) b)
 
-pub cascade_ends_at_core : Cascade-ends-at-core
+pub cascade_ends_at_core : CascadeEndsAtCore
 cascade_ends_at_core g k X Y settled ins ti = sym ((cascade_keeps_core g k X).1 ins ti)
 cascade_ends_at_core g k X Y (drops v l f) ins ti = cascade_ends_at_core g k (without X v) Y f ins ti ∙ (cascade_keeps_core g k X).0 v l
 
-pub search_ends_at_component : Search-ends-at-component
+pub search_ends_at_component : SearchEndsAtComponent
 search_ends_at_component g o X w l x C m walks shut =
     same_set C (component g X w) (λ v c. component_takes g o X w l x X (λ _ n. n) (component_holds g o X w l x) (walks v c))
     (λ v c. walk_closed C (λ a b p q r. shut a b p q (component_part g o X w l x b r)) m (component_connected g o X w l x w v (component_holds g o X w l x) c))
 
-pub core_number_is_met : Core-number-is-met
+pub core_number_is_met : CoreNumberIsMet
 core_number_is_met g k v X m part few = go (number_tells g v (core_within g k (everyone g) v m) k) (number_tells g v (core_within g k (everyone g) v m) (suc k))
   where
     go : (v ∈ core g k (everyone g) → k ≤ core_number g v) × (k ≤ core_number g v → v ∈ core g k (everyone g)) → (v ∈ core g (suc k) (everyone g) → suc k ≤ core_number g v) × (suc k ≤ core_number g v → v ∈ core g (suc k) (everyone g)) → core_number g v ≡ k
@@ -51,7 +51,7 @@ core_number_is_met g k v X m part few = go (number_tells g v (core_within g k (e
         up : ¬ (suc k ≤ core_number g v)
         up h = let n : v ∈ core g (suc k) (everyone g) = b.1 h in omega (arith, core_tight g (suc k) (everyone g) v n, degree_mono g (core g (suc k) (everyone g)) X v (λ x _. part x))
 
-pub degree_falls_by_one : Degree-falls-by-one
+pub degree_falls_by_one : DegreeFallsByOne
 unfolding degree without
 degree_falls_by_one g S w u l m =
     let a = count_split (λ v. g.linked u v && S v) w g.size l in
@@ -64,6 +64,6 @@ degree_falls_by_one g S w u l m =
     here_is : (g.linked u w && S w) ≡ g.linked u w
     here_is = same_test _ _ (λ h. (and_parts (g.linked u w) (S w) h).0) (λ h. and_from (g.linked u w) (S w) h m)
 
-pub degree_by_list : Degree-by-list
+pub degree_by_list : DegreeByList
 unfolding degree
 degree_by_list g o u vs d f a S = count_by_list S (g.linked u) g.size vs d (λ v _ m. f v m) (All-weaker _ _ (λ v h. (o.within v u (o.symmetric u v h), h)) vs a)

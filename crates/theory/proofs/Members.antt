@@ -2,7 +2,7 @@
 use Rattle.std.proofs.Common.{◌≡◌, ℕ, zero, suc, ◌+◌, ◌<◌, ◌≤◌, Bool, true, false, cond, ◌⊎◌, List, ◌∷◌, length, filter, refl, ap, ◌∙◌, inl, inr, arith}
 use Rattle.std.specs.List.{range_with_len}
 use Rattle.std.proofs.lemmas.Bool.{both_ways, cases_eq}
-use Rattle.theory.specs.ListingLaws.{Members-rise}
+use Rattle.theory.specs.ListingLaws.{MembersRise}
 use Rattle.theory.specs.Sets.{◌among◌, bit, count, ListOf, members, Pairwise, Set, ◌∈◌}
 use Rattle.theory.proofs.Counting.{count_suc, count_zero}
 use Rattle.theory.proofs.Lists.{all_from, pairwise_same}
@@ -49,7 +49,7 @@ members_up p a (suc n) = go (p a) (members_up p (a + 1) n)
     go true h = (all_from (λ v. a < v) (filter p (range_with_len (a + 1) n)) (λ v m. let x = (among_members p (a + 1) n v m).0 in omega arith), h)
     go false h = h
 
-pub members_rise : Members-rise
+pub members_rise : MembersRise
 members_rise p n = (
   members_up p 0 n,
   (λ v. ((λ m. let (a, b, c) = among_members p 0 n v m in (omega arith, c)), (λ l m. members_among p 0 n v (omega arith) (omega arith) m))),

@@ -1,9 +1,9 @@
 -- Core numbers: the function and the relation, the circles a person is in, and their sum.
 use Rattle.std.proofs.Common.{◌≡◌, ℕ, zero, suc, ◌<◌, ◌≤◌, arith}
 use Rattle.std.proofs.lemmas.Bool.{and_parts}
-use Rattle.theory.specs.CircleLaws.{Core-number-tells-circles}
+use Rattle.theory.specs.CircleLaws.{CoreNumberTellsCircles}
 use Rattle.theory.specs.Circles.{Circle, Group, LevelCircle}
-use Rattle.theory.specs.CoreLaws.{Core-number-is-greatest, Core-sizes-sum-to-core-numbers}
+use Rattle.theory.specs.CoreLaws.{CoreNumberIsGreatest, CoreSizesSumToCoreNumbers}
 use Rattle.theory.specs.Cores.{above, circle_at, component, core, core_number, everyone, IsCore}
 use Rattle.theory.specs.Graphs.{degree, Graph, Lawful, links}
 use Rattle.theory.specs.Orders.{Order, StrictOrder, Weakest}
@@ -30,7 +30,7 @@ is_core g u l =
       most = λ c S i t m. (number_tells g u l c).0 (core_greatest g c (everyone g) S i (λ v s. everyone_in g v (i v s)) t u m);
     }
 
-pub core_number_is_greatest : Core-number-is-greatest
+pub core_number_is_greatest : CoreNumberIsGreatest
 core_number_is_greatest g u l = (is_core g u l, only)
   where
     only : (c : ℕ) → IsCore g u c → c ≡ core_number g u
@@ -56,17 +56,17 @@ in_circle g o le t k u m = go (circle_weakest g o le t k D gr)
         let c : w ∈ core g k (above le w) = group_core g o le t k D w gr we w we.0 in
         (circle_at g le k w, at_circle g o le t k w c, at_takes g o le t k w c D gr we.1 w we.0 (at_weakest g o le t k w c).0 u held)
 
-pub level_core_number_tells_circles : Core-number-tells-circles LevelCircle Order
+pub level_core_number_tells_circles : CoreNumberTellsCircles LevelCircle Order
 level_core_number_tells_circles g o le t u l k =
     ((λ x. let (S, c, m) = x in (is_core g u l).most k S c.group.inside c.group.tight m), (λ h. in_circle g o le t k u ((number_tells g u l k).1 h)))
 
-pub core_number_tells_circles : Core-number-tells-circles Circle StrictOrder
+pub core_number_tells_circles : CoreNumberTellsCircles Circle StrictOrder
 core_number_tells_circles g o le (t, str) u l k = (
   (λ x. let (S, c, m) = x in (is_core g u l).most k S c.inside c.tight m),
   (λ h. let (S, c, m) = (level_core_number_tells_circles g o le t u l k).1 h in (S, from_level g le t k S c, m)),
 )
 
-pub core_sizes_sum_to_core_numbers : Core-sizes-sum-to-core-numbers
+pub core_sizes_sum_to_core_numbers : CoreSizesSumToCoreNumbers
 unfolding core_number links degree
 core_sizes_sum_to_core_numbers g o =
     (rows_columns (λ k. core g (suc k) (everyone g)) g.size g.size, omega (arith, few, ends g.linked same o.apart g.size))

@@ -6,7 +6,7 @@ use Rattle.theory.specs.Cores.{above, circle_at, component, core}
 use Rattle.theory.specs.Graphs.{Graph, Lawful}
 use Rattle.theory.specs.Orders.{Order, Strict, Weakest}
 use Rattle.theory.specs.Peeling.{dropped}
-use Rattle.theory.specs.PeelingLaws.{Dropped-are-own, Innermost-drops-all, Innermost-is-tested}
+use Rattle.theory.specs.PeelingLaws.{DroppedAreOwn, InnermostDropsAll, InnermostIsTested}
 use Rattle.theory.specs.Sets.{minus, Relation, Set, without, ◌∈◌, ◌⊆◌}
 use Rattle.theory.proofs.Circles.{at_circle, at_group, at_takes, at_weakest, circle_is, circle_known, circle_made, circle_weakest, group_core}
 use Rattle.theory.proofs.Components.{component_holds, component_part, core_group}
@@ -61,18 +61,18 @@ module _ (g : Graph) (o : Lawful g) (le : Relation) (t : Order le) (str : Strict
   all_own : minus S K ≡ S → Innermost (Circle g le k) S
   all_own e S' c' p = let (v, n) = c'.someone in (own v (rw e (p v n))).1 S' c' p n
 
-pub dropped_are_own : Dropped-are-own
+pub dropped_are_own : DroppedAreOwn
 unfolding dropped
 dropped_are_own g o le t str k S w c we = (own g o le t str k S w c we, back g o le t str k S w c we)
 
-pub innermost_drops_all : Innermost-drops-all
+pub innermost_drops_all : InnermostDropsAll
 unfolding dropped
 innermost_drops_all g o le t str k S w c we = (
   (λ inner. same_set _ _ (λ v m. (minus_from S _ v m).0) (λ v m. back g o le t str k S w c we v (m, λ S' c' p n. inner S' c' p))),
   all_own g o le t str k S w c we,
 )
 
-pub innermost_is_tested : Innermost-is-tested
+pub innermost_is_tested : InnermostIsTested
 innermost_is_tested g o le t k S w c we = (there, back)
   where
     rest : Set

@@ -9,7 +9,7 @@ use Rattle.theory.specs.Cores.{above, circle_at, component, core, everyone}
 use Rattle.theory.specs.Graphs.{Graph, Lawful}
 use Rattle.theory.specs.Orders.{Below, Order, Strict, Weakest, weakest}
 use Rattle.theory.specs.Peeling.{peel}
-use Rattle.theory.specs.PeelingLaws.{Peeling-meets-circles-once}
+use Rattle.theory.specs.PeelingLaws.{PeelingMeetsCirclesOnce}
 use Rattle.theory.specs.Sets.{◌among◌, count, Pairwise, Relation, Set, without, ◌∈◌, ◌⊆◌}
 use Rattle.theory.proofs.Circles.{at_weakest, circle_known, circle_made}
 use Rattle.theory.proofs.Cores.{core_greatest, core_part, core_same, core_tight, core_within, everyone_in}
@@ -121,7 +121,7 @@ module _ (g : Graph) (o : Lawful g) (le : Relation) (t : Order le) (str : Strict
           let less : count (core g k (without R w)) g.size ≤ m = omega (arith, without_less R w g.size i n, count_mono (core g k (without R w)) (without R w) g.size (λ v _. core_part g k (without R w) v)) in
           peeled_one B up w we (peel g le k m (core g k (without R w))) (rw e (ih (beyond le w) (beyond_upward le t w) (rw e at less)))
 
-pub peeling_meets_circles_once : Peeling-meets-circles-once
+pub peeling_meets_circles_once : PeelingMeetsCirclesOnce
 unfolding Upward
 peeling_meets_circles_once g o le t str k = rw e (All-weaker _ _ (λ e h. (h.1, h.2)) _ p.each, p.rising, λ S w c we. p.complete S w c we refl)
   where

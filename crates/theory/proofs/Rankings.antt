@@ -1,7 +1,7 @@
 -- Ties broken by number, and the orders that a strict order gives.
 use Rattle.std.proofs.Common.{◌≡◌, ℕ, ◌<◌, ◌≤◌, true, false, not, ltb, ◌≢◌, ◌⊎◌, sym, subst, inl, inr, arith}
 use Rattle.std.proofs.lemmas.Bool.{and_from, and_parts, both_ways, cases_Bool, cases_eq, cases_lt, lt-ltb, ltb-true, not-false, not_from_false, not_from_true, not-true, or_cases, or_left, or_right}
-use Rattle.theory.specs.ListingLaws.{Smaller-number-is-weaker, Ties-are-broken}
+use Rattle.theory.specs.ListingLaws.{SmallerNumberIsWeaker, TiesAreBroken}
 use Rattle.theory.specs.Orders.{Below, by_number, Named, not_after, Order, Ranking, Strict, StrictOrder, tie_broken, Weakest}
 use Rattle.theory.specs.Sets.{Relation, Set, ◌∈◌}
 use Rattle.theory.proofs.Orders.{le_other, le_self, weakest_of}
@@ -100,13 +100,13 @@ pub not_after_ranking : (le wk : Relation) → Ranking le wk → Ranking (not_af
 unfolding not_after
 not_after_ranking le wk rk = record { one_way = rk.one_way; through = rk.through; either = rk.either; agrees = λ u v h. not_from_false (wk v u) (rk.one_way u v h) }
 
-pub ties_are_broken : Ties-are-broken
+pub ties_are_broken : TiesAreBroken
 ties_are_broken le t = (by_number_lem le t, λ wk rk. (not_after_order wk rk, not_after_strict wk rk, not_after_ranking le wk rk))
 
 pub tie_broken_lem : (le : Relation) → Order le → StrictOrder (tie_broken le)
 tie_broken_lem le t = let rk = by_number_lem le t in (not_after_order (by_number le) rk, not_after_strict (by_number le) rk)
 
-pub smaller_number_is_weaker : Smaller-number-is-weaker
+pub smaller_number_is_weaker : SmallerNumberIsWeaker
 unfolding not_after
 smaller_number_is_weaker le t u v = ((λ b. there (number_from le u v (not-false (by_number le u v) b.1))), (λ x. back (number_in le u v (x_le x) (x_less x))))
   where

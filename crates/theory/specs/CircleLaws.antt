@@ -1,9 +1,9 @@
 -- The laws of circles, each for a form of circles and the orders it is for. Assumes nothing.
---     Circle-forms-agree          where no two persons are level, the two forms of a circle are one
---     Circles-are-components      the circles for k are the components of w in the k-core of those not weaker than w: one for each w in that core
---     Apart-or-nested             two circles for one k are apart, or one holds the other
---     Nested-by-k                 a circle for a larger k lies in the circle for k with the same weakest person
---     Core-number-tells-circles   a person is in some circle for k exactly when the core number is at least k
+--     CircleFormsAgree          where no two persons are level, the two forms of a circle are one
+--     CirclesAreComponents      the circles for k are the components of w in the k-core of those not weaker than w: one for each w in that core
+--     ApartOrNested             two circles for one k are apart, or one holds the other
+--     NestedByK                 a circle for a larger k lies in the circle for k with the same weakest person
+--     CoreNumberTellsCircles   a person is in some circle for k exactly when the core number is at least k
 use Rattle.std.specs.Prelude.{◌≡◌, ℕ, ◌<◌, ◌≤◌, ◌⊎◌}
 use Rattle.theory.specs.Sets.{Set, Relation, ◌∈◌, ◌⊆◌, Apart}
 use Rattle.theory.specs.Graphs.{Graph, Lawful}
@@ -11,29 +11,29 @@ use Rattle.theory.specs.Orders.{Order, Strict, Weakest}
 use Rattle.theory.specs.Circles.{Circle, LevelCircle}
 use Rattle.theory.specs.Cores.{core, core_number, above, circle_at}
 
-abbrev pub Circle-forms-agree : Type 0
-Circle-forms-agree =
+abbrev pub CircleFormsAgree : Type 0
+CircleFormsAgree =
     (g : Graph) (le : Relation) → Order le → Strict le → (k : ℕ) (S : Set) →
     (Circle g le k S → LevelCircle g le k S) × (LevelCircle g le k S → Circle g le k S)
 
-abbrev pub Circles-are-components : (Graph → Relation → ℕ → Set → Type 0) → (Relation → Type 0) → Type 0
-Circles-are-components IsCircle Ordered =
+abbrev pub CirclesAreComponents : (Graph → Relation → ℕ → Set → Type 0) → (Relation → Type 0) → Type 0
+CirclesAreComponents IsCircle Ordered =
     (g : Graph) → Lawful g → (le : Relation) → Ordered le → (k : ℕ) →
     ((w : ℕ) → w ∈ core g k (above le w) → IsCircle g le k (circle_at g le k w) × Weakest le (circle_at g le k w) w)
     × ((S : Set) (w : ℕ) → IsCircle g le k S → Weakest le S w → (w ∈ core g k (above le w)) × (S ≡ circle_at g le k w))
     × ((S : Set) → IsCircle g le k S → (w : ℕ) × Weakest le S w)
 
-abbrev pub Apart-or-nested : (Graph → Relation → ℕ → Set → Type 0) → (Relation → Type 0) → Type 0
-Apart-or-nested IsCircle Ordered =
+abbrev pub ApartOrNested : (Graph → Relation → ℕ → Set → Type 0) → (Relation → Type 0) → Type 0
+ApartOrNested IsCircle Ordered =
     (g : Graph) → Lawful g → (le : Relation) → Ordered le → (k : ℕ) (S S' : Set) → IsCircle g le k S → IsCircle g le k S' →
     Apart S S' ⊎ ((S ⊆ S') ⊎ (S' ⊆ S))
 
-abbrev pub Nested-by-k : (Graph → Relation → ℕ → Set → Type 0) → (Relation → Type 0) → Type 0
-Nested-by-k IsCircle Ordered =
+abbrev pub NestedByK : (Graph → Relation → ℕ → Set → Type 0) → (Relation → Type 0) → Type 0
+NestedByK IsCircle Ordered =
     (g : Graph) → Lawful g → (le : Relation) → Ordered le → (k k' : ℕ) → k ≤ k' → (S : Set) (w : ℕ) → IsCircle g le k' S → Weakest le S w →
     IsCircle g le k (circle_at g le k w) × Weakest le (circle_at g le k w) w × (S ⊆ circle_at g le k w)
 
-abbrev pub Core-number-tells-circles : (Graph → Relation → ℕ → Set → Type 0) → (Relation → Type 0) → Type 0
-Core-number-tells-circles IsCircle Ordered =
+abbrev pub CoreNumberTellsCircles : (Graph → Relation → ℕ → Set → Type 0) → (Relation → Type 0) → Type 0
+CoreNumberTellsCircles IsCircle Ordered =
     (g : Graph) → Lawful g → (le : Relation) → Ordered le → (u : ℕ) → u < g.size → (k : ℕ) →
     (((S : Set) × IsCircle g le k S × (u ∈ S)) → k ≤ core_number g u) × (k ≤ core_number g u → (S : Set) × IsCircle g le k S × (u ∈ S))

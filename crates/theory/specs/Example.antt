@@ -31,32 +31,32 @@ pairs = from_pairs 4 ((0, 1) ∷ (2, 3) ∷ [])
 abbrev pub by_marks : Relation
 by_marks = tie_broken (by_grade (λ u. slice_index (5 ∷ 6 ∷ 7 ∷ 8 ∷ []) u))
 
-abbrev pub Bow-tie-core-numbers : Type 0
-Bow-tie-core-numbers = (u : ℕ) → u < 5 → IsCore bow_tie u 2
+abbrev pub BowTieCoreNumbers : Type 0
+BowTieCoreNumbers = (u : ℕ) → u < 5 → IsCore bow_tie u 2
 
-abbrev pub Bow-tie-listed : Type 0
-Bow-tie-listed =
+abbrev pub BowTieListed : Type 0
+BowTieListed =
     Lists bow_tie by_points 1 9 every ((0, 0 ∷ 1 ∷ 2 ∷ 3 ∷ 4 ∷ []) ∷ (2, 1 ∷ 2 ∷ 3 ∷ 4 ∷ []) ∷ (4, 3 ∷ 4 ∷ []) ∷ [])
     × Lists bow_tie by_points 1 9 innermost ((4, 3 ∷ 4 ∷ []) ∷ [])
     × Lists bow_tie by_points 2 9 every ((0, 0 ∷ 1 ∷ 2 ∷ 3 ∷ 4 ∷ []) ∷ (2, 2 ∷ 3 ∷ 4 ∷ []) ∷ [])
     × Lists bow_tie by_points 2 1 every ((2, 2 ∷ 3 ∷ 4 ∷ []) ∷ [])
     × Lists bow_tie by_points 3 9 every []
 
-abbrev pub Pairs-listed : Type 0
-Pairs-listed = Lists pairs by_marks 1 9 every ((0, 0 ∷ 1 ∷ []) ∷ (2, 2 ∷ 3 ∷ []) ∷ [])
+abbrev pub PairsListed : Type 0
+PairsListed = Lists pairs by_marks 1 9 every ((0, 0 ∷ 1 ∷ []) ∷ (2, 2 ∷ 3 ∷ []) ∷ [])
 
 -- ---- tempting errors
 
 -- the larger set of all five has the same weakest person
-abbrev pub Triangle-is-no-circle : Type 0
-Triangle-is-no-circle = Circle bow_tie by_points 2 (these (0 ∷ 1 ∷ 2 ∷ [])) → ⊥
+abbrev pub TriangleIsNoCircle : Type 0
+TriangleIsNoCircle = Circle bow_tie by_points 2 (these (0 ∷ 1 ∷ 2 ∷ [])) → ⊥
 
 -- two parts of what remains are not one circle
-abbrev pub Two-parts-are-no-circle : Type 0
-Two-parts-are-no-circle = Circle pairs by_marks 1 (these (0 ∷ 1 ∷ 2 ∷ 3 ∷ [])) → ⊥
+abbrev pub TwoPartsAreNoCircle : Type 0
+TwoPartsAreNoCircle = Circle pairs by_marks 1 (these (0 ∷ 1 ∷ 2 ∷ 3 ∷ [])) → ⊥
 
 -- when 0 falls, 1 has too few neighbours left and falls too
-abbrev pub Fallen-neighbour-counts : Type 0
-Fallen-neighbour-counts =
+abbrev pub FallenNeighbourCounts : Type 0
+FallenNeighbourCounts =
     (Tight bow_tie 2 (these (1 ∷ 2 ∷ 3 ∷ 4 ∷ [])) → ⊥)
     × ((g : Graph) (le : Relation) (k : ℕ) (S : Set) (v : ℕ) → v ∈ S → degree g S v < k → Circle g le k S → ⊥)

@@ -1,26 +1,26 @@
 // Theorems on cores, components and core numbers.
-ghost use Rattle.theory.specs.CoreLaws.{Component-is-greatest, Core-is-greatest, Core-number-is-greatest, Core-sizes-sum-to-core-numbers};
+ghost use Rattle.theory.specs.CoreLaws.{ComponentIsGreatest, CoreIsGreatest, CoreNumberIsGreatest, CoreSizesSumToCoreNumbers};
 
 pub fn core_is_greatest() -> u8
-    ensures { Core-is-greatest }
+    ensures { CoreIsGreatest }
 {
     0
 }
 
 pub fn component_is_greatest() -> u8
-    ensures { Component-is-greatest }
+    ensures { ComponentIsGreatest }
 {
     0
 }
 
 pub fn core_number_is_greatest() -> u8
-    ensures { Core-number-is-greatest }
+    ensures { CoreNumberIsGreatest }
 {
     0
 }
 
 pub fn core_sizes_sum_to_core_numbers() -> u8
-    ensures { Core-sizes-sum-to-core-numbers }
+    ensures { CoreSizesSumToCoreNumbers }
 {
     0
 }

@@ -1,32 +1,32 @@
 // Theorems on peeling, on who is dropped, and on innermost circles.
-ghost use Rattle.theory.specs.PeelingLaws.{Dropped-are-own, Innermost-drops-all, Innermost-is-tested, Peeling-meets-circles-once, Round-stays-in-component};
+ghost use Rattle.theory.specs.PeelingLaws.{DroppedAreOwn, InnermostDropsAll, InnermostIsTested, PeelingMeetsCirclesOnce, RoundStaysInComponent};
 
 pub fn peeling_meets_circles_once() -> u8
-    ensures { Peeling-meets-circles-once }
+    ensures { PeelingMeetsCirclesOnce }
 {
     0
 }
 
 pub fn round_stays_in_component() -> u8
-    ensures { Round-stays-in-component }
+    ensures { RoundStaysInComponent }
 {
     0
 }
 
 pub fn dropped_are_own() -> u8
-    ensures { Dropped-are-own }
+    ensures { DroppedAreOwn }
 {
     0
 }
 
 pub fn innermost_drops_all() -> u8
-    ensures { Innermost-drops-all }
+    ensures { InnermostDropsAll }
 {
     0
 }
 
 pub fn innermost_is_tested() -> u8
-    ensures { Innermost-is-tested }
+    ensures { InnermostIsTested }
 {
     0
 }
