@@ -4,7 +4,7 @@
 --     point_of bytes               the points of four bytes
 --     laurel_bytes c s             the class, then the score
 --     laurel_of bytes              the laurels of five bytes
-use Rattle.std.specs.Prelude.{ℕ, ◌+◌, ◌*◌, ◌/◌, ◌%◌, List, [], ◌∷◌, ℤ, Some, None, Option}
+use Rattle.std.specs.Prelude.{ℕ, ◌+◌, ◌*◌, ◌/◌, ◌%◌, List, [], ◌∷◌, Some, None, Option}
 use Rattle.std.specs.Int.{w32}
 use Rattle.std.proofs.Common.{of_z, to_z}
 use Rattle.grades.specs.declared.points.Points.{Points}

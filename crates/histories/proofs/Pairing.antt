@@ -5,13 +5,13 @@ use Rattle.std.proofs.lemmas.Bool.{cases_lt, lt-ltb, le-ltb}
 use Rattle.std.proofs.lemmas.Bool.Decides.{nat_tests}
 use borrow.Author.Tests.{eq-eqb}
 use Rattle.networks.specs.Net.{Net, Sound}
-use Rattle.networks.specs.Changes.{is_pair, with_link, without_link, with_grade, link_fault, unlink_fault, regrade_fault, after_link, after_unlink, after_regrade}
+use Rattle.networks.specs.Changes.{is_pair, with_link, without_link, link_fault, after_link}
 use Rattle.faults.specs.Answers.{unless}
 use Rattle.faults.specs.declared.call_fault.CallFault.{CallFault}
 use Rattle.faults.specs.declared.call_fault.CallFault.TheVariants.{NoSuchPerson, SamePerson}
-use Rattle.histories.specs.declared.edit.Edit.TheVariants.{Link, Unlink, Regrade}
+use Rattle.histories.specs.declared.edit.Edit.TheVariants.{Link, Unlink}
 use Rattle.histories.specs.Edits.{after_edit}
-use Rattle.histories.specs.Pairs.{Drawn, net_of, drawn_from, is_the_pair, changed, refused_there, pair_edits}
+use Rattle.histories.specs.Pairs.{net_of, drawn_from, is_the_pair, changed, pair_edits}
 
 three_ways : (u v : ℕ) → (u < v) ⊎ ((v < u) ⊎ (u ≡ v))
 three_ways u v = elim (cases_lt u v) [ inl h ↦ inl h | inr h ↦ elim (cases_lt v u) [ inl i ↦ inr (inl i) | inr i ↦ inr (inr (omega arith)) ] ]

@@ -1,16 +1,13 @@
 -- What is told is right: from the defined results to the relations of the law. Assumes nothing.
-use Rattle.std.proofs.Common.{◌≡◌, ℕ, suc, ◌*◌, ◌<◌, ◌≤◌, Bool, true, false, cond, eqb, List, map, length, get_or, Decides, sym, refl, ap, ◌∙◌, subst, inl, inr, arith}
-use mathlib.Core.Option.{Option}
-use Rattle.std.specs.List.{range_with_len}
+use Rattle.std.proofs.Common.{◌≡◌, ℕ, suc, ◌*◌, ◌<◌, ◌≤◌, Bool, true, false, cond, eqb, length, get_or, sym, refl, ap, ◌∙◌, subst, inl, inr, arith}
 use Rattle.std.proofs.lemmas.Bool.{true≢false}
 use Rattle.std.proofs.lemmas.List.FromFn.{length-map-range_with_len, get_or-map-range_with_len}
 use Rattle.faults.specs.declared.call_fault.CallFault.TheVariants.{NotWeakest}
 use Rattle.networks.specs.Net.{Net}
 use Rattle.meaning.specs.Persons.{graph_of, cores_of}
-use Rattle.theory.specs.Sets.{Set, Relation, ◌∈◌, total, any_of}
+use Rattle.theory.specs.Sets.{Relation, total, any_of}
 use Rattle.theory.specs.Graphs.{Graph, Lawful, links}
-use Rattle.theory.specs.Orders.{StrictOrder, Weakest}
-use Rattle.theory.specs.Circles.{Circle}
+use Rattle.theory.specs.Orders.{StrictOrder}
 use Rattle.theory.specs.Cores.{IsCore, core_number, circle_at}
 use Rattle.theory.specs.Listing.{Choice, Lists, listing}
 use Rattle.theory.proofs.Numbers.{core_number_is_greatest, core_number_tells_circles, core_sizes_sum_to_core_numbers}
@@ -19,9 +16,8 @@ use Rattle.theory.proofs.Entries.{listing_is_right}
 use Rattle.theory.proofs.Totals.{total_same}
 use Rattle.forest.specs.Trees.{tree}
 use Rattle.forest.specs.Picking.{of_number, under_of}
-use Rattle.forest.specs.Holders.{HolderOf}
 use Rattle.forest.proofs.Vertices.{holder_is_found}
-use Rattle.histories.specs.Answers.{Told, refused, holder, Numbered, sum_of, Cored, Holding}
+use Rattle.histories.specs.Answers.{refused, holder, Numbered, sum_of, Cored, Holding}
 use Rattle.histories.specs.Law.{Nests}
 
 module _ {G : Type 0} (net : Net G) where

@@ -1,5 +1,5 @@
 -- A written listing, read back. Assumes nothing.
-use Rattle.std.proofs.Common.{◌≡◌, ℕ, suc, ◌+◌, ◌≤◌, true, false, ◌||◌, ltb, List, [], ◌∷◌, ◌++◌, map, length, take, drop, Some, None, Option, Result, sym, refl, ap, ◌∙◌, subst, arith}
+use Rattle.std.proofs.Common.{◌≡◌, ℕ, suc, ◌+◌, ◌≤◌, List, [], ◌∷◌, ◌++◌, length, take, drop, Some, None, Option, Result, sym, refl, ap, ◌∙◌, arith}
 use Rattle.std.proofs.lemmas.List.{length-append, take_all, append_assoc}
 use Rattle.faults.specs.Answers.{answered, unless}
 use Rattle.faults.specs.declared.call_fault.CallFault.{CallFault}
@@ -7,7 +7,7 @@ use Rattle.grades.specs.Places.{onto}
 use Rattle.theory.specs.Listing.{Entry}
 use Rattle.queries.specs.declared.head.Head.{Head}
 use Rattle.queries.specs.Written.{head_of, heads_from, heads_of, members_of}
-use Rattle.histories.specs.Answers.{Told, circles, said}
+use Rattle.histories.specs.Answers.{circles, said}
 use Rattle.histories.specs.Reading.{circle_in, circles_in, told_circles}
 
 pub length_heads : (place : ℕ) (es : List Entry) → length (heads_from place es) ≡ length es

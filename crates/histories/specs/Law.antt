@@ -19,7 +19,6 @@ use Rattle.queries.specs.Asking.{choice_of}
 use Rattle.queries.specs.Refusals.{peel_fault, pick_fault, plant_fault}
 use Rattle.histories.specs.declared.call.Call.{Call}
 use Rattle.histories.specs.declared.call.Call.TheVariants.{Change, Cores, Peel, Plant, Pick, Holder}
-use Rattle.histories.specs.declared.call.Lent.{Lent}
 use Rattle.histories.specs.Edits.{Edits, drawn_by}
 use Rattle.histories.specs.Answers.{Told, done, refused, numbers, circles, entries, said, granted, Numbered, sum_of, Cored, Holding}
 

@@ -6,7 +6,7 @@
 --     refused_there d e            the first refusal of link, unlink or regrade that applies there
 --     changed d e                 with the pair, without it, or with one grade replaced
 --     pair_edits                   these as a kind of change
-use Rattle.std.specs.Prelude.{ℕ, min, max, Bool, false, not, ◌&&◌, ◌||◌, List, take, set, Option, ◌==◌, nat_lt, slice_set}
+use Rattle.std.specs.Prelude.{ℕ, min, max, Bool, false, not, ◌&&◌, ◌||◌, List, take, Option, ◌==◌, nat_lt, slice_set}
 use Rattle.faults.specs.declared.call_fault.CallFault.{CallFault}
 use Rattle.networks.specs.Net.{Net}
 use Rattle.networks.specs.Changes.{link_fault, unlink_fault, regrade_fault}

@@ -4,11 +4,10 @@
 --     Ran le k .. calls first last   a list of calls: the same, and the law is kept
 use Rattle.std.specs.Prelude.{◌≡◌, ℕ, Bool, true, List, [], ◌∷◌, ◌++◌, length}
 use Rattle.networks.specs.Net.{Net}
-use Rattle.meaning.specs.Persons.{graph_of, order_of}
 use Rattle.histories.specs.declared.call.Call.{Call}
 use Rattle.histories.specs.Edits.{Edits, drawn_by}
 use Rattle.histories.specs.Answers.{Told}
-use Rattle.histories.specs.Law.{Planted, Right, Nests, Kept}
+use Rattle.histories.specs.Law.{Planted, Right, Kept}
 
 -- Tree net says that the tree's memory is the tree of the network
 pub record Stands {G D C : Type 0} (k : Edits G D C) (d0 : D) (size : ℕ) (calls : List (Call C)) (answers : List Told) (d : D) (room : ℕ) (valid : Bool) (Tree : Net G → Type 0) : Type 0 where

@@ -1,11 +1,10 @@
 -- Sound networks are lawful graphs, and grades with two laws give strict orders of persons. Assumes nothing.
-use Rattle.std.proofs.Common.{◌≡◌, ℕ, Bool, true, false, ◌⊎◌, Some, None, Option, sym, refl, ap, ◌∙◌, inl, inr}
+use Rattle.std.proofs.Common.{◌≡◌, Bool, true, false, ◌⊎◌, Some, None, Option, sym, refl, ◌∙◌, inl, inr}
 use Rattle.std.proofs.lemmas.Bool.{both_ways}
 use Rattle.std.specs.List.{slice_get}
 use Rattle.networks.specs.Net.{Net, Sound}
-use Rattle.theory.specs.Graphs.{Graph, Lawful}
-use Rattle.theory.specs.Orders.{Order, Strict, StrictOrder, by_number, not_after}
-use Rattle.theory.specs.Sets.{Relation}
+use Rattle.theory.specs.Graphs.{Lawful}
+use Rattle.theory.specs.Orders.{Order, StrictOrder, by_number}
 use Rattle.theory.proofs.Rankings.{ties_are_broken}
 use Rattle.meaning.specs.Persons.{graph_of, grade_at_most, by_grades, order_of}
 

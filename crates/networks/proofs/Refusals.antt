@@ -1,5 +1,5 @@
 -- When a change is granted. Assumes nothing.
-use Rattle.std.proofs.Common.{◌≡◌, ℕ, ◌<◌, ◌≤◌, min, Bool, true, false, cond, ◌||◌, eqb, leb, is_ok, Some, None, Option, refl, ◌∙◌, arith}
+use Rattle.std.proofs.Common.{◌≡◌, ℕ, ◌<◌, min, true, false, leb, is_ok, Some, None, Option, refl, ◌∙◌, arith}
 use Rattle.std.proofs.lemmas.Bool.{lt-leb, ne_eqb, or_from, cond-false, cond-true, both_ways}
 use Rattle.faults.specs.Answers.{answered}
 use Rattle.faults.specs.declared.call_fault.CallFault.{CallFault}

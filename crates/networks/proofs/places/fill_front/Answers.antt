@@ -1,4 +1,4 @@
-use Rattle.std.proofs.Common.{◌≡◌, set, sym, ap, ◌∙◌, arith}
+use Rattle.std.proofs.Common.{set, sym, ap, ◌∙◌, arith}
 use Rattle.networks.proofs.Fills.{filled_none, filled_more, filled_all}
 use Rattle.networks.proofs.places.fill_front.Goals as goal
 

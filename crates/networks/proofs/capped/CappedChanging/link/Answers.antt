@@ -1,4 +1,4 @@
-use Rattle.std.proofs.Common.{◌≡◌, sym, refl, ap, ◌∙◌}
+use Rattle.std.proofs.Common.{sym, refl, ap, ◌∙◌}
 use Rattle.faults.specs.Answers.{answered, unless}
 use Rattle.networks.specs.Changes.{with_link}
 use Rattle.networks.specs.Fixed.{capped}

@@ -1,4 +1,4 @@
-use Rattle.std.proofs.Common.{◌≡◌, ◌<◌, length, set, ap, ◌∙◌, arith, rules}
+use Rattle.std.proofs.Common.{◌<◌, length, set, ap, ◌∙◌, arith, rules}
 use Rattle.grades.proofs.Fronts.{onto_more, onto_all}
 use Rattle.networks.specs.Net.{neighbours}
 use Rattle.networks.proofs.Rising.{kept_below, nth_some, nth_none}
