@@ -1,5 +1,5 @@
 -- When the core numbers are refused, and how they are noted. Assumes nothing.
---     cores_fault n scratch places   why core numbers of n persons are refused, if they are: first scratch, then places
+--     cores_fault n scratch places  why core numbers of n persons are refused, if they are: first scratch, then places
 --     KeptIf f old new            at a refusal the memory holds what it held
 --     Noted S k v old new some    k is written for those of S below v, and some says whether there is one
 use Rattle.std.specs.Prelude.{◌≡◌, ℕ, ◌*◌, ◌<◌, ◌≤◌, Bool, true, false, cond, ◌⊎◌, List, Some, None, Option, nat_lt, slice_index}

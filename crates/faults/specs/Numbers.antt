@@ -1,5 +1,5 @@
 -- The number of each refusal of a call. Assumes nothing.
---     number_of f                  the number of the refusal f
+--     number_of f                 the number of the refusal f
 use Rattle.std.specs.Prelude.{ℕ}
 use Rattle.faults.specs.declared.call_fault.CallFault.{CallFault}
 use Rattle.faults.specs.declared.call_fault.CallFault.TheVariants.{TooLarge, ShortMemory, NoSuchPerson, SamePerson, AlreadyLinked, NotLinked, AtCeiling, BadQuery, NoTree, ShortScratch, NoRoom, NotWeakest}

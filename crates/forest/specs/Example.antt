@@ -1,7 +1,7 @@
 -- The tree of the bow tie, computed. Assumes nothing.
 --     vertex k w h ps             the vertex with these parts
 --     grown                       a proof that names it on its `unfolding` line computes with rounds and trees
---     BowTieTree                its vertices, its ten entries, what is picked from them, and the holders
+--     BowTieTree                  its vertices, its ten entries, what is picked from them, and the holders
 use Rattle.std.specs.Prelude.{◌≡◌, ℕ, false, List, [], ◌∷◌}
 use Rattle.std.proofs.Math.Option.{Option, some, none}
 use Rattle.theory.specs.Sets.{any_of}

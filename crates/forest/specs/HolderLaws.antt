@@ -1,8 +1,8 @@
 -- The laws of holders, and sums along them. Assumes nothing.
 --     Held g le k                 what holds of the holders for k
---     HoldersAreSmallest        a holder is the last earlier round whose circle has the key, and the smallest other circle that holds the circle
---     SizesAddUp                a circle has as many members as are its own and in the circles that it is the holder of
---     AddingUpIsWhole          adding up, the last round first: before round j is added to its holder, its own sum is whole
+--     HoldersAreSmallest          a holder is the last earlier round whose circle has the key, and the smallest other circle that holds the circle
+--     SizesAddUp                  a circle has as many members as are its own and in the circles that it is the holder of
+--     AddingUpIsWhole             adding up, the last round first: before round j is added to its holder, its own sum is whole
 use Rattle.std.specs.Prelude.{◌≡◌, ℕ, suc, ◌+◌, ◌<◌, ◌≤◌, ◌⊎◌}
 use Rattle.std.proofs.Math.Option.{some, none}
 use Rattle.theory.specs.Sets.{Set, Relation, ◌∈◌, ◌⊆◌, count, total}

@@ -1,7 +1,7 @@
 -- The laws of joining and finding, the last round first. Assumes nothing.
---     RootsEndHolders           a root is where the holders no earlier than j end; two persons have one root exactly when a walk leads from one to the other
---     JoiningStepsBack          the step back to round j, and which rounds get j as their holder by it
---     FindingEndsAtRoot        following up finds the root, also after a short cut is written; a joining is one write: of j at the start, and of j at each root that is touched
+--     RootsEndHolders             a root is where the holders no earlier than j end; two persons have one root exactly when a walk leads from one to the other
+--     JoiningStepsBack            the step back to round j, and which rounds get j as their holder by it
+--     FindingEndsAtRoot           following up finds the root, also after a short cut is written; a joining is one write: of j at the start, and of j at each root that is touched
 use Rattle.std.specs.Prelude.{◌≡◌, ℕ, suc, ◌<◌, ◌≤◌, true, false, Decides}
 use Rattle.std.proofs.Math.Option.{some}
 use Rattle.theory.specs.Sets.{Set, Relation, ◌∈◌, times}

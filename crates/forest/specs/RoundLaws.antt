@@ -1,10 +1,10 @@
 -- The laws of rounds. Assumes nothing.
 --     Rounded g le k              what holds of the rounds for k
---     RoundsMeetCirclesOnce    the rounds meet every circle once, rising, and drop each person of the core once
---     RoundsBySteps             a loop that takes the weakest of those left does the rounds, and ends after the last
---     PeelingIsRounds           peeling is the rounds in order
---     RoundsList                 the listing is the last r of the rounds that are chosen, each with its key and its circle's members
---     InnermostByRounds         a circle is innermost if it is dropped whole, if as many are dropped as it has members, and if it is no circle's holder
+--     RoundsMeetCirclesOnce       the rounds meet every circle once, rising, and drop each person of the core once
+--     RoundsBySteps               a loop that takes the weakest of those left does the rounds, and ends after the last
+--     PeelingIsRounds             peeling is the rounds in order
+--     RoundsList                  the listing is the last r of the rounds that are chosen, each with its key and its circle's members
+--     InnermostByRounds           a circle is innermost if it is dropped whole, if as many are dropped as it has members, and if it is no circle's holder
 use Rattle.std.specs.Prelude.{◌≡◌, ℕ, suc, ◌<◌, ◌≤◌, map, filter, ◌≢◌}
 use Rattle.std.proofs.Math.Option.{some}
 use Rattle.std.specs.List.{range_with_len}

@@ -1,11 +1,11 @@
 -- The laws of the tree, and of what is read from it. Assumes nothing.
---     TreeIsRight               the function of the tree meets the relation, and is the only list of vertices that does
---     VerticesForK              the vertices for k, in the order of the rounds
---     EntriesAreCoreNumbers    the tree has as many entries as all core numbers together
---     VerticesGatherCircles     a circle is its vertex's own persons and those of every vertex under it by holders
---     ChildrenStandLater        no vertex for k has a vertex that stands behind it as its holder
---     PickingLists               picking from the tree gives the listing of the network
---     HolderIsFound             whether w is the weakest of a circle for k, and which circle holds that, is found in the tree
+--     TreeIsRight                 the function of the tree meets the relation, and is the only list of vertices that does
+--     VerticesForK                the vertices for k, in the order of the rounds
+--     EntriesAreCoreNumbers       the tree has as many entries as all core numbers together
+--     VerticesGatherCircles       a circle is its vertex's own persons and those of every vertex under it by holders
+--     ChildrenStandLater          no vertex for k has a vertex that stands behind it as its holder
+--     PickingLists                picking from the tree gives the listing of the network
+--     HolderIsFound               whether w is the weakest of a circle for k, and which circle holds that, is found in the tree
 use Rattle.std.specs.Prelude.{◌≡◌, ℕ, ◌≤◌, false, List, map, Decides, nat_eq}
 use Rattle.std.specs.List.{range_with_len}
 use Rattle.theory.specs.Sets.{Set, Relation, total, Pairwise, any_of}

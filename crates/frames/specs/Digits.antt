@@ -1,8 +1,8 @@
 -- Hexadecimal digits: 0 to 9 and A to F. Assumes nothing.
---     is_digit c                   the character c is a digit
---     value_of c                   what the digit c stands for
---     letter_of d                  the digit that stands for d
---     digit_of c                   what c stands for, or its refusal
+--     is_digit c                  the character c is a digit
+--     value_of c                  what the digit c stands for
+--     letter_of d                 the digit that stands for d
+--     digit_of c                  what c stands for, or its refusal
 use Rattle.std.specs.Prelude.{ℕ, ◌+◌, ◌-◌, Bool, cond, ◌&&◌, ◌||◌, Ok, Err, Result, nat_le, nat_lt}
 use Rattle.frames.specs.declared.fault.LineFault.{LineFault}
 use Rattle.frames.specs.declared.fault.LineFault.TheVariants.{NoDigit}

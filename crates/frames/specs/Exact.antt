@@ -1,7 +1,7 @@
 -- A line is accepted exactly when it is the line that its request or reply is written as. Assumes nothing.
---     request_line put q           the line that q is written as, where put g are the bytes of the grade g
---     reply_line p                 the line that p is written as
---     refusal_in r                 the refusal that r tells, if any
+--     request_line put q          the line that q is written as, where put g are the bytes of the grade g
+--     reply_line p                the line that p is written as
+--     refusal_in r                the refusal that r tells, if any
 --     Exact In write cs r         r is what is written as cs and meets In, both ways
 use Rattle.std.specs.Prelude.{◌≡◌, ℕ, List, Some, None, Ok, Err, Option, Result}
 use Rattle.frames.specs.declared.fault.FrameFault.{FrameFault}

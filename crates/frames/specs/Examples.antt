@@ -1,5 +1,5 @@
 -- What a row of the example table says. Assumes nothing.
---     example_line e               the characters of the row
+--     example_line e              the characters of the row
 --     Stands e                    the line is granted, as a request over points or as a reply, and stands for these bytes
 use Rattle.std.specs.Prelude.{◌≡◌, ℕ, ◌*◌, cond, List, take, None}
 use Rattle.frames.specs.declared.examples.Example.{Example}

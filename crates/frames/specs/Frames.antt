@@ -1,11 +1,11 @@
 -- Frames: kind, fields with the high byte first, check byte. Assumes nothing.
 --     total bs                    the sum of the bytes
---     check_of bs                  the byte that they lack for their sum to be a multiple of 256
+--     check_of bs                 the byte that they lack for their sum to be a multiple of 256
 --     framed bs                   kind and fields with their check byte
---     kind_in bs                   the first byte; 0 where there is none
+--     kind_in bs                  the first byte; 0 where there is none
 --     bytes16 n                   the two bytes of n; four are bytes32 n
---     word_at bs i, long_at bs i    the number that stands at byte i, in two bytes and in four
---     frame_fault known n bs       the first refusal of a frame, if its kind is known and has length n
+--     word_at bs i, long_at bs i  the number that stands at byte i, in two bytes and in four
+--     frame_fault known n bs      the first refusal of a frame, if its kind is known and has length n
 use Rattle.std.specs.Prelude.{ℕ, ◌+◌, ◌-◌, ◌*◌, ◌/◌, ◌%◌, Bool, cond, List, [], ◌∷◌, ◌++◌, length, Some, None, Option, ◌==◌, slice_index}
 use Rattle.grades.specs.Encoding.{number32}
 use Rattle.frames.specs.declared.fault.FrameFault.{FrameFault}

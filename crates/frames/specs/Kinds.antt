@@ -1,8 +1,8 @@
 -- The kinds of frames, and the length of each. Assumes nothing.
 --     lengths                     each kind with its length, check byte included; of 2, without the grade
---     table_length k               the length of kind k, 0 for no kind
---     length_of size k             .. where a grade takes size bytes
---     is_request k, is_reply k      the kinds that programs read, and those that they print
+--     table_length k              the length of kind k, 0 for no kind
+--     length_of size k            .. where a grade takes size bytes
+--     is_request k, is_reply k    the kinds that programs read, and those that they print
 use Rattle.std.specs.Prelude.{ℕ, ◌+◌, Bool, cond, ◌&&◌, ◌||◌, List, [], ◌∷◌, ◌==◌, nat_le}
 
 abbrev pub lengths : List (ℕ × ℕ)

@@ -1,13 +1,13 @@
 -- A line of digits, and the bytes that it stands for, in a frame. Assumes nothing.
---     all_digits cs                every character is a digit
---     bytes_in cs                  the bytes of a line, two digits each
---     line_of bs                   the line that the bytes are written as
---     wrong_size n                 no line has n characters: none, an odd number or more than 64
---     line_fault cs                the first refusal of the line
+--     all_digits cs               every character is a digit
+--     bytes_in cs                 the bytes of a line, two digits each
+--     line_of bs                  the line that the bytes are written as
+--     wrong_size n                no line has n characters: none, an odd number or more than 64
+--     line_fault cs               the first refusal of the line
 --     held f                      the bytes of the frame
 --     padded bs                   32 places with the bytes in front; those behind are 0
---     frame_of bs                  the frame of the bytes
---     frame_after f cs             what f holds once the line was read into it
+--     frame_of bs                 the frame of the bytes
+--     frame_after f cs            what f holds once the line was read into it
 --     shown l                     the characters of the line
 --     typed cs                    the line of the characters; the places behind them are 0
 --     granted o, unless o y x     what follows from a first refusal, or from none: the answer; y, or x on refusal

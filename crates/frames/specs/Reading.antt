@@ -1,12 +1,12 @@
 -- What a line is read as. Assumes nothing.
---     request_fault size bs        the first refusal of a frame that is sent to a program, where a grade takes size bytes
---     reply_fault bs               .. of one that a program printed
---     first_of o p                 the first refusal of a line, or else of its frame
---     request_refusal size cs      the first refusal of a line that is sent to a program
---     reply_refusal cs             .. of one that a program printed
+--     request_fault size bs       the first refusal of a frame that is sent to a program, where a grade takes size bytes
+--     reply_fault bs              .. of one that a program printed
+--     first_of o p                the first refusal of a line, or else of its frame
+--     request_refusal size cs     the first refusal of a line that is sent to a program
+--     reply_refusal cs            .. of one that a program printed
 --     answered o m                the answer: the refusal, or what the frame means
---     read_request get size cs     the request in the line, or the line's first refusal
---     read_reply cs                the reply in the line, or its first refusal; an FF of no layer is of no kind
+--     read_request get size cs    the request in the line, or the line's first refusal
+--     read_reply cs               the reply in the line, or its first refusal; an FF of no layer is of no kind
 use Rattle.std.specs.Prelude.{ℕ, List, Some, None, Ok, Err, Option, Result}
 use Rattle.frames.specs.declared.fault.FrameFault.{FrameFault}
 use Rattle.frames.specs.declared.fault.FrameFault.TheVariants.{Line, UnknownKind}

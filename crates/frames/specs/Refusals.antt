@@ -1,6 +1,6 @@
 -- The number and the layer of each refusal of a line or a frame. Assumes nothing.
 --     fault_number f, fault_layer f the number of the refusal f, and the layer that it comes from
---     layer_number l               the number of the layer
+--     layer_number l              the number of the layer
 use Rattle.std.specs.Prelude.{ℕ}
 use Rattle.frames.specs.declared.fault.LineFault.TheVariants.{WrongSize, NoDigit}
 use Rattle.frames.specs.declared.fault.FrameFault.{FrameFault}

@@ -1,9 +1,9 @@
 -- Replies as bytes, both ways. Assumes nothing.
---     reply_kind p                 the kind of the reply
---     reply_bytes p                its kind and fields
---     layer_of b                   the layer of that number
---     reply_of bs                  the reply whose kind and fields stand in the bytes
---     refusal_of f line            the reply that tells the refusal f of that line
+--     reply_kind p                the kind of the reply
+--     reply_bytes p               its kind and fields
+--     layer_of b                  the layer of that number
+--     reply_of bs                 the reply whose kind and fields stand in the bytes
+--     refusal_of f line           the reply that tells the refusal f of that line
 --     ReplyFits p                 the fields are in the range of their types
 use Rattle.std.specs.Prelude.{ℕ, ◌<◌, cond, List, [], ◌∷◌, ◌++◌, Some, None, Option, ◌==◌, slice_index}
 use Rattle.grades.specs.Encoding.{bytes32}

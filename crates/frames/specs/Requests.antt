@@ -1,7 +1,7 @@
 -- Requests as bytes, both ways. Assumes nothing.
---     request_kind q               the kind of the request
---     request_bytes put q          its kind and fields, where put g are the bytes of the grade g
---     request_of get size bs       the request whose kind and fields stand in the bytes, where get gives the grade of size bytes
+--     request_kind q              the kind of the request
+--     request_bytes put q         its kind and fields, where put g are the bytes of the grade g
+--     request_of get size bs      the request whose kind and fields stand in the bytes, where get gives the grade of size bytes
 --     RequestFits In q            the fields are in the range of their types, a grade where it meets In
 use Rattle.std.specs.Prelude.{ℕ, ◌<◌, cond, List, [], ◌∷◌, ◌++◌, take, drop, Some, None, Option, ◌==◌, slice_index}
 use Rattle.frames.specs.declared.request.Request.{Request}

@@ -1,9 +1,9 @@
 -- The two kinds of grade as bytes, the high byte first. Assumes nothing.
 --     bytes32 n                   the four bytes of n
---     point_bytes z                two's complement
---     point_of bytes               the points of four bytes
---     laurel_bytes c s             the class, then the score
---     laurel_of bytes              the laurels of five bytes
+--     point_bytes z               two's complement
+--     point_of bytes              the points of four bytes
+--     laurel_bytes c s            the class, then the score
+--     laurel_of bytes             the laurels of five bytes
 use Rattle.std.specs.Prelude.{ℕ, ◌+◌, ◌*◌, ◌/◌, ◌%◌, List, [], ◌∷◌, Some, None, Option}
 use Rattle.std.specs.Int.{w32}
 use Rattle.std.proofs.Common.{of_z, to_z}

@@ -1,6 +1,6 @@
 -- The order of persons: by grade, and of level grades the smaller number is weaker. Assumes nothing.
---     weaker_by le g u h v         person u with grade g is weaker than person v with grade h
---     rank_at_most le g u h v       .. or is that person
+--     weaker_by le g u h v        person u with grade g is weaker than person v with grade h
+--     rank_at_most le g u h v     .. or is that person
 use Rattle.std.specs.Prelude.{ℕ, Bool, not, ◌&&◌, ◌||◌, nat_le, nat_lt}
 
 abbrev pub weaker_by : {G : Type 0} → (G → G → Bool) → G → ℕ → G → ℕ → Bool

@@ -3,7 +3,7 @@
 --     said f a                    a, or the refusal
 --     granted a                   is it no refusal
 --     Numbered g cs               cs are the core numbers of all persons in turn
---     sum_of cs                    their sum
+--     sum_of cs                   their sum
 --     Cored g le cs               a person is in some circle for k exactly when the number is at least k
 --     Holding g le k w a          what is told of the holder of the circle whose weakest person is w
 use Rattle.std.specs.Prelude.{◌≡◌, ℕ, ◌<◌, ◌≤◌, Bool, true, false, ◌⊎◌, List, length, Some, None, Option as Refusal, slice_index}

@@ -1,8 +1,8 @@
 -- A kind of change: when it is refused, what it does, and which network a drawn state means. Assumes nothing.
 --     Edits G D C                 of changes C on drawn states D, which mean networks with grades G
---     after_edit k d e             the drawn state after a change, granted or refused
+--     after_edit k d e            the drawn state after a change, granted or refused
 --     after k d c                 after any call: only a change alters the drawn state
---     drawn_by k d calls           after a list of calls; it reads no answer and no memory
+--     drawn_by k d calls          after a list of calls; it reads no answer and no memory
 use Rattle.std.specs.Prelude.{List, fold, Option}
 use Rattle.faults.specs.Answers.{unless}
 use Rattle.faults.specs.declared.call_fault.CallFault.{CallFault}

@@ -1,5 +1,5 @@
 -- The law over every list of calls, for any kind of network, grade and change. Assumes nothing.
---     is_change c, is_plant c       is the call a change, or a plant
+--     is_change c, is_plant c     is the call a change, or a plant
 --     Planted calls answers i     before call i a plant was granted, and no change since
 --     Right le k d size planted c a   the answer a to the call c is right where the calls before drew d, the tree has room for size entries, and there is a tree or none
 --     Nests g le                  how the circles of a network lie in one another

@@ -1,11 +1,11 @@
 -- Changes of pairs and of grades, on a network drawn from the calls alone. Assumes nothing.
 --     Drawn G                     how many persons, the ceiling, a grade each, and a set of unordered pairs
---     net_of d                     the network that it means: two are linked when they are a pair
---     drawn_from ceiling net       what is drawn of a network
+--     net_of d                    the network that it means: two are linked when they are a pair
+--     drawn_from ceiling net      what is drawn of a network
 --     start n ceiling grades      as opened: n persons with the first n grades found, and no pair
---     refused_there d e            the first refusal of link, unlink or regrade that applies there
+--     refused_there d e           the first refusal of link, unlink or regrade that applies there
 --     changed d e                 with the pair, without it, or with one grade replaced
---     pair_edits                   these as a kind of change
+--     pair_edits                  these as a kind of change
 use Rattle.std.specs.Prelude.{ℕ, min, max, Bool, false, not, ◌&&◌, ◌||◌, List, take, Option, ◌==◌, nat_lt, slice_set}
 use Rattle.faults.specs.declared.call_fault.CallFault.{CallFault}
 use Rattle.networks.specs.Net.{Net}

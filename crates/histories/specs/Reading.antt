@@ -1,7 +1,7 @@
 -- What the answer of a program's call tells, with the memory that it wrote. Assumes nothing.
---     circle_in members h          the circle that a head tells of: its weakest person, and its members
---     circles_in heads members     the circles of a row of heads
---     told_done r, told_numbers r n row, told_circles r heads members, told_entries r, told_holder r   what is told by a result
+--     circle_in members h         the circle that a head tells of: its weakest person, and its members
+--     circles_in heads members    the circles of a row of heads
+--     told_done r, told_numbers r n row, told_circles r heads members, told_entries r, told_holder r  what is told by a result
 use Rattle.std.specs.Prelude.{ℕ, List, map, take, drop, Some, None, Ok, Err, Option, Result}
 use Rattle.std.proofs.Math.Option.{Option as Holding, some, none}
 use Rattle.faults.specs.declared.call_fault.CallFault.{CallFault}

@@ -1,9 +1,9 @@
 -- A network as the theory sees it: its graph, and the order of its persons. Assumes nothing.
---     graph_of net                 who is linked to whom
---     grade_at_most le g h          a grade is at most another; nobody's is at most every other
---     by_grades le net             at most as strong, by the grades alone
---     order_of le net              at most as strong, by grade and then by number: the smaller number is weaker
---     cores_of net                 the core number of each person
+--     graph_of net                who is linked to whom
+--     grade_at_most le g h        a grade is at most another; nobody's is at most every other
+--     by_grades le net            at most as strong, by the grades alone
+--     order_of le net             at most as strong, by grade and then by number: the smaller number is weaker
+--     cores_of net                the core number of each person
 use Rattle.std.specs.Prelude.{ℕ, Bool, true, false, List, map, Some, None, Option}
 use Rattle.std.specs.List.{slice_get, range_with_len}
 use Rattle.networks.specs.Net.{Net}

@@ -2,7 +2,7 @@
 --     Fixed G                     the sizes that the opening check went by, the ceiling, and what lies in memory behind the places in use
 --     opened n grades             n persons with the first n of the grades found, and no link
 --     capped limit f              what is fixed, under a degree cap
---     opened_size f n              n, or no persons where the opening check refuses
+--     opened_size f n             n, or no persons where the opening check refuses
 use Rattle.std.specs.Prelude.{ℕ, min, false, List, ◌∷◌, take, Option}
 use Rattle.faults.specs.Answers.{unless}
 use Rattle.faults.specs.declared.call_fault.CallFault.{CallFault}

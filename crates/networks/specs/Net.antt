@@ -1,7 +1,7 @@
 -- What a credit network means. Assumes nothing.
 --     Net G                       persons 0 to persons - 1, a grade for each, and who is linked to whom
 --     neighbours net u            those linked to u, rising
---     degree_of net u              how many they are
+--     degree_of net u             how many they are
 --     Sound net                   what every network keeps
 use Rattle.std.specs.Prelude.{◌≡◌, ℕ, ◌<◌, ◌≤◌, Bool, true, false, List, length, filter}
 use Rattle.std.specs.List.{range_with_len}

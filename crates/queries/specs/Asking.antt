@@ -1,9 +1,9 @@
 -- What a query asks for, and which numbers make none. Assumes nothing.
---     query_fault k r choice       why the numbers make no query, if they make none
---     fault_of q                   the refusal, if there is one
---     choice_of innermost          the innermost circles, or every one
+--     query_fault k r choice      why the numbers make no query, if they make none
+--     fault_of q                  the refusal, if there is one
+--     choice_of innermost         the innermost circles, or every one
 --     Asks q k r choice           the query has these numbers
---     listing_of le net q          the listing of the network that the query asks for
+--     listing_of le net q         the listing of the network that the query asks for
 use Rattle.std.specs.Prelude.{◌≡◌, ℕ, Bool, true, false, cond, ◌||◌, List, Some, None, Ok, Err, Option, Result, ◌==◌, nat_lt}
 use Rattle.faults.specs.declared.call_fault.CallFault.{CallFault}
 use Rattle.faults.specs.declared.call_fault.CallFault.TheVariants.{BadQuery}

@@ -1,8 +1,8 @@
 -- When a listing is refused: the first refusal that applies. Assumes nothing.
 --     room_fault es heads members  a listing has more circles, or more members, than there are places
---     peel_fault n scratch waiting es heads members   for a peel of n persons with that much memory
---     plant_fault n scratch waiting sum size         for a plant of core numbers with that sum into a tree of that size
---     pick_fault valid n scratch es heads members     for a pick from a tree of n persons
+--     peel_fault n scratch waiting es heads members  for a peel of n persons with that much memory
+--     plant_fault n scratch waiting sum size        for a plant of core numbers with that sum into a tree of that size
+--     pick_fault valid n scratch es heads members    for a pick from a tree of n persons
 use Rattle.std.specs.Prelude.{ℕ, ◌*◌, Bool, cond, not, ◌||◌, List, length, Some, None, Option, nat_lt}
 use Rattle.faults.specs.declared.call_fault.CallFault.{CallFault}
 use Rattle.faults.specs.declared.call_fault.CallFault.TheVariants.{NoTree, ShortScratch, NoRoom}

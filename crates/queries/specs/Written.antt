@@ -1,8 +1,8 @@
 -- A listing written out: heads, and behind one another the members of all circles. Assumes nothing.
---     head_of e place              the head of a circle whose first member stands at the place
---     heads_from place es          the heads of circles, the first member of the first at the place
---     heads_of es                  the heads of a listing
---     members_of es                the members of a listing, circle after circle
+--     head_of e place             the head of a circle whose first member stands at the place
+--     heads_from place es         the heads of circles, the first member of the first at the place
+--     heads_of es                 the heads of a listing
+--     members_of es               the members of a listing, circle after circle
 use Rattle.std.specs.Prelude.{ℕ, ◌+◌, List, [], ◌∷◌, ◌++◌, length}
 use Rattle.theory.specs.Listing.{Entry}
 use Rattle.queries.specs.declared.head.Head.{Head}

@@ -2,9 +2,9 @@
 --     Shrunk g k fell degrees     who stands is the k-core, with the right degrees; the others fell with mark 1
 --     Lined le net S ps           persons from the weakest to the strongest, all of S among them
 --     place g le k v              1 for who is in no round, else 2 and the number of the round
---     drops_before g le k i        how many are dropped before round i
+--     drops_before g le k i       how many are dropped before round i
 --     Found g le k m fell names ends persons   m rounds: the place of each person, the key of each round, where its own persons end, and these, round after round, rising
---     held_of h                    0 for none, else 1 and the number of the round
+--     held_of h                   0 for none, else 1 and the number of the round
 --     Held g le k m held          the holder of each of m rounds
 use Rattle.std.specs.Prelude.{◌≡◌, Bool, true, false, cond, List, ℕ, suc, ◌+◌, ◌≤◌, ◌<◌, get_or, take, drop}
 use Rattle.std.proofs.Math.Option.{Option, some, none}

@@ -1,8 +1,8 @@
 -- The memory of adjacency rows: what it needs, what an opening fixes in it, and what it holds at the end. Assumes nothing.
---     sizes_of span counts cells grades      what the opening check goes by
---     refusal_for n span counts cells grades     6 for too many persons or too long rows, else 7 for a memory that is short
---     refusal_by n sizes           the same, by the sizes as a list
---     fixed_in n span counts cells grades    the sizes, the span as the ceiling, and what lies behind
+--     sizes_of span counts cells grades     what the opening check goes by
+--     refusal_for n span counts cells grades    6 for too many persons or too long rows, else 7 for a memory that is short
+--     refusal_by n sizes          the same, by the sizes as a list
+--     fixed_in n span counts cells grades   the sizes, the span as the ceiling, and what lies behind
 --     Begins xs cells             cells begins with xs, and is free behind it
 --     HoldsNet net f span counts cells grades     the memory holds just this network
 use Rattle.std.specs.Prelude.{◌≡◌, ℕ, ◌*◌, ◌<◌, cond, ◌||◌, List, [], ◌∷◌, ◌++◌, map, length, take, drop, Some, None, Option, nat_lt, slice_index}

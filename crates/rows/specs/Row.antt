@@ -2,12 +2,12 @@
 --     has v xs                    v stands in xs
 --     Rising xs                   each number of xs is below all behind it
 --     Tidy n xs                   xs is who stands in it, rising, and all are below n
---     place_of v xs                how many of xs are below v
+--     place_of v xs               how many of xs are below v
 --     entered v xs                xs with v put in at its place
 --     leaving v xs                xs with the number at the place of v taken out
---     row_of span counts cells u   the row of u: as many as its count, from the place u * span on
+--     row_of span counts cells u  the row of u: as many as its count, from the place u * span on
 --     Ready span counts cells u   the row of u lies in memory, is no longer than the span, and rises
---     written_at i xs cells        cells with xs written from the place i on
+--     written_at i xs cells       cells with xs written from the place i on
 --     Rewritten edit span u counts cells counts' cells'     the row of u is edited, its count too, and all else stays
 --     BothRewritten edit span u v counts cells counts' cells'     v is edited into the row of u, then u into the row of v
 use Rattle.std.specs.Prelude.{◌≡◌, ℕ, ◌+◌, ◌*◌, ◌^◌, ◌<◌, ◌≤◌, Bool, false, ◌||◌, List, [], ◌∷◌, ◌++◌, length, take, drop, filter, ◌==◌, nat_lt, slice_index, slice_set}

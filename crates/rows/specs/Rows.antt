@@ -1,6 +1,6 @@
 -- The network that adjacency rows mean, and what the rows keep. Assumes nothing.
---     linked_in n span counts cells u v      u is below n, and v stands in the row of u
---     net_in n span counts cells grades      the first n grades, and these links
+--     linked_in n span counts cells u v     u is below n, and v stands in the row of u
+--     net_in n span counts cells grades     the first n grades, and these links
 --     Within n span counts        no count of the first n passes the span
 --     Listed n span counts cells  the first n rows are tidy
 --     Apart linked                nobody is linked to themselves

@@ -1,9 +1,9 @@
 -- The laws of circles, each for a form of circles and the orders it is for. Assumes nothing.
---     CircleFormsAgree          where no two persons are level, the two forms of a circle are one
---     CirclesAreComponents      the circles for k are the components of w in the k-core of those not weaker than w: one for each w in that core
---     ApartOrNested             two circles for one k are apart, or one holds the other
---     NestedByK                 a circle for a larger k lies in the circle for k with the same weakest person
---     CoreNumberTellsCircles   a person is in some circle for k exactly when the core number is at least k
+--     CircleFormsAgree            where no two persons are level, the two forms of a circle are one
+--     CirclesAreComponents        the circles for k are the components of w in the k-core of those not weaker than w: one for each w in that core
+--     ApartOrNested               two circles for one k are apart, or one holds the other
+--     NestedByK                   a circle for a larger k lies in the circle for k with the same weakest person
+--     CoreNumberTellsCircles      a person is in some circle for k exactly when the core number is at least k
 use Rattle.std.specs.Prelude.{◌≡◌, ℕ, ◌<◌, ◌≤◌, ◌⊎◌}
 use Rattle.theory.specs.Sets.{Set, Relation, ◌∈◌, ◌⊆◌, Apart}
 use Rattle.theory.specs.Graphs.{Graph, Lawful}

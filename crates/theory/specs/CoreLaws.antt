@@ -1,8 +1,8 @@
 -- The laws of cores, components and core numbers. Assumes nothing.
---     CoreIsGreatest            the k-core of X is in X, tight, and holds every tight part of X
---     ComponentIsGreatest       the component of w in X is connected, holds w and every connected part of X with w, and is tight where X is
---     CoreNumberIsGreatest     the function gives the core number, and no other number is one
---     CoreSizesSumToCoreNumbers   the sizes of the cores for 1, 2, .. sum to the sum of the core numbers, at most twice the links
+--     CoreIsGreatest              the k-core of X is in X, tight, and holds every tight part of X
+--     ComponentIsGreatest         the component of w in X is connected, holds w and every connected part of X with w, and is tight where X is
+--     CoreNumberIsGreatest        the function gives the core number, and no other number is one
+--     CoreSizesSumToCoreNumbers        the sizes of the cores for 1, 2, .. sum to the sum of the core numbers, at most twice the links
 use Rattle.std.specs.Prelude.{◌≡◌, ℕ, suc, ◌*◌, ◌<◌, ◌≤◌}
 use Rattle.theory.specs.Sets.{Set, ◌∈◌, ◌⊆◌, count, total}
 use Rattle.theory.specs.Graphs.{Graph, Lawful, Inside, Tight, Connected, links}

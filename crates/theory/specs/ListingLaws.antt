@@ -1,11 +1,11 @@
 -- The laws of orders with the ties broken, of lists of members, and of the listing. Assumes nothing.
---     TiesAreBroken             by number, and by any strict order that agrees: no two persons are level any more
---     SmallerNumberIsWeaker    with the ties broken, weaker means weaker in grade, or level and of the smaller number
---     DataIsLawful              every list of pairs gives a lawful graph, and every list of grades an order
---     MembersRise                the list of members is rising, has the members and nobody else, and is as long as their count
---     ListingIsRight            the function of the listing meets the relation, and is the only list that does
---     LevelListingIsRight      the same of the names, where persons may be level
---     PeelingLists               the listing of all circles is the last r that peeling meets
+--     TiesAreBroken               by number, and by any strict order that agrees: no two persons are level any more
+--     SmallerNumberIsWeaker       with the ties broken, weaker means weaker in grade, or level and of the smaller number
+--     DataIsLawful                every list of pairs gives a lawful graph, and every list of grades an order
+--     MembersRise                 the list of members is rising, has the members and nobody else, and is as long as their count
+--     ListingIsRight              the function of the listing meets the relation, and is the only list that does
+--     LevelListingIsRight         the same of the names, where persons may be level
+--     PeelingLists                the listing of all circles is the last r that peeling meets
 use Rattle.std.specs.Prelude.{◌≡◌, ℕ, ◌<◌, true, ◌⊎◌, List, map, length}
 use Rattle.theory.specs.Sets.{Set, Relation, ◌∈◌, ◌among◌, count, Pairwise, members}
 use Rattle.theory.specs.Graphs.{Graph, Lawful, from_pairs}

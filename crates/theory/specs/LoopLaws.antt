@@ -1,11 +1,11 @@
 -- What the loops of a finder rest on. Assumes nothing.
 --     Falls g k X Y               from X to Y by dropping, one after another, persons with fewer than k neighbours in what is left
---     CascadeEndsAtCore        whatever the order of dropping, it ends at the core
---     CascadeKeepsCore          dropping who has too few neighbours keeps the core; a tight set is its own core; dropping from a core or at once is the same
---     SearchEndsAtComponent    what a search from w has found, once no link leads out of it, is the component
---     CoreNumberIsMet          a person of the k-core with at most k neighbours in a set that has the next core is at core number k
---     DegreeFallsByOne         one member less is one neighbour less, for the neighbours of that member
---     DegreeByList              the degree is a count over the list of neighbours
+--     CascadeEndsAtCore           whatever the order of dropping, it ends at the core
+--     CascadeKeepsCore            dropping who has too few neighbours keeps the core; a tight set is its own core; dropping from a core or at once is the same
+--     SearchEndsAtComponent       what a search from w has found, once no link leads out of it, is the component
+--     CoreNumberIsMet             a person of the k-core with at most k neighbours in a set that has the next core is at core number k
+--     DegreeFallsByOne            one member less is one neighbour less, for the neighbours of that member
+--     DegreeByList                the degree is a count over the list of neighbours
 use Rattle.std.specs.Prelude.{◌≡◌, ℕ, suc, ◌+◌, ◌<◌, ◌≤◌, true, ◌≢◌, List, count_by}
 use Rattle.std.specs.List.{AllByRecursion}
 use Rattle.theory.specs.Sets.{Set, ◌∈◌, ◌⊆◌, without, bit, ◌among◌, Pairwise}

@@ -1,9 +1,9 @@
 -- The laws of peeling. Assumes nothing.
---     PeelingMeetsCirclesOnce  peeling meets every circle exactly once, rising
---     RoundStaysInComponent    a round takes persons of one component only, and leaves what that component alone would leave
---     DroppedAreOwn             who is dropped in a round is in its circle and in no circle that it holds
---     InnermostDropsAll         a circle is innermost exactly when its round drops the whole of it
---     InnermostIsTested         where persons may be level: innermost exactly when nobody is left once the weakest and all level with it are out
+--     PeelingMeetsCirclesOnce     peeling meets every circle exactly once, rising
+--     RoundStaysInComponent       a round takes persons of one component only, and leaves what that component alone would leave
+--     DroppedAreOwn               who is dropped in a round is in its circle and in no circle that it holds
+--     InnermostDropsAll           a circle is innermost exactly when its round drops the whole of it
+--     InnermostIsTested           where persons may be level: innermost exactly when nobody is left once the weakest and all level with it are out
 use Rattle.std.specs.Prelude.{◌≡◌, ℕ, not, ◌&&◌}
 use Rattle.std.specs.List.{AllByRecursion}
 use Rattle.theory.specs.Sets.{Set, Relation, ◌∈◌, ◌⊆◌, without, minus, both_of, ◌among◌, Pairwise}
