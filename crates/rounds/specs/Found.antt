@@ -6,7 +6,7 @@
 --     Found g le k m fell names ends persons   m rounds: the place of each person, the key of each round, where its own persons end, and these, round after round, rising
 --     held_of h                   0 for none, else 1 and the number of the round
 --     Held g le k m held          the holder of each of m rounds
-use Rattle.std.specs.Prelude.{◌≡◌, Bool, true, false, cond, List, ℕ, suc, ◌+◌, ◌≤◌, ◌<◌, get_or, take, drop}
+use Rattle.std.specs.Prelude.{◌≡◌, Bool, true, false, cond, List, ℕ, suc, ◌+◌, ◌≤◌, ◌<◌, take, drop, slice_index}
 use Rattle.std.proofs.Math.Option.{Option, some, none}
 use Rattle.networks.specs.Net.{Net}
 use Rattle.meaning.specs.Persons.{order_of}
@@ -19,9 +19,9 @@ use Rattle.cores.specs.Lanes.{alive, Counted}
 
 pub record Shrunk (g : Graph) (k : ℕ) (fell degrees : List ℕ) : Type 0 where
   pub stands : alive fell ≡ core g k (everyone g)
-  pub out : (v : ℕ) → v < g.size → alive fell v ≡ false → get_or fell v 0 ≡ 1
+  pub out : (v : ℕ) → v < g.size → alive fell v ≡ false → slice_index fell v ≡ 1
   pub counted : Counted g fell degrees
-  pub enough : (v : ℕ) → v ∈ alive fell → k ≤ get_or degrees v 0
+  pub enough : (v : ℕ) → v ∈ alive fell → k ≤ slice_index degrees v
 
 pub record Lined {G : Type 0} (le : G → G → Bool) (net : Net G) (S : Set) (ps : List ℕ) : Type 0 where
   pub rising : Pairwise (λ u v. order_of le net u v ≡ true) ps
@@ -35,9 +35,9 @@ drops_before g le k i = total (λ j. count (own g le k j) g.size) i
 
 pub record Found (g : Graph) (le : Relation) (k m : ℕ) (fell names ends persons : List ℕ) : Type 0 where
   pub all : m ≡ rounds g le k
-  pub placed : (v : ℕ) → v < g.size → get_or fell v 0 ≡ place g le k v
-  pub named : (i : ℕ) → i < m → get_or names i 0 ≡ key g le k i
-  pub ended : (i : ℕ) → i < m → get_or ends i 0 ≡ drops_before g le k (suc i)
+  pub placed : (v : ℕ) → v < g.size → slice_index fell v ≡ place g le k v
+  pub named : (i : ℕ) → i < m → slice_index names i ≡ key g le k i
+  pub ended : (i : ℕ) → i < m → slice_index ends i ≡ drops_before g le k (suc i)
   pub listed : (i : ℕ) → i < m → take (count (own g le k i) g.size) (drop (drops_before g le k i) persons) ≡ members (own g le k i) g.size
 
 abbrev pub held_of : Option ℕ → ℕ
@@ -45,4 +45,4 @@ held_of none = 0
 held_of (some j) = j + 1
 
 abbrev pub Held : Graph → Relation → ℕ → ℕ → List ℕ → Type 0
-Held g le k m held = (i : ℕ) → i < m → get_or held i 0 ≡ held_of (holder g le k i)
+Held g le k m held = (i : ℕ) → i < m → slice_index held i ≡ held_of (holder g le k i)
