@@ -1,20 +1,14 @@
 // Theorems on holders, and on sums along them.
 ghost use Rattle.forest.specs.HolderLaws.{AddingUpIsWhole, HoldersAreSmallest, SizesAddUp};
 
-pub fn holders_are_smallest() -> u8
+pub fn holders_are_smallest()
     ensures { HoldersAreSmallest }
-{
-    0
-}
+{}
 
-pub fn sizes_add_up() -> u8
+pub fn sizes_add_up()
     ensures { SizesAddUp }
-{
-    0
-}
+{}
 
-pub fn adding_up_is_whole() -> u8
+pub fn adding_up_is_whole()
     ensures { AddingUpIsWhole }
-{
-    0
-}
+{}

@@ -1,20 +1,14 @@
 // Theorems on joining parts and finding their roots, the last round first.
 ghost use Rattle.forest.specs.JoiningLaws.{FindingEndsAtRoot, JoiningStepsBack, RootsEndHolders};
 
-pub fn roots_end_holders() -> u8
+pub fn roots_end_holders()
     ensures { RootsEndHolders }
-{
-    0
-}
+{}
 
-pub fn joining_steps_back() -> u8
+pub fn joining_steps_back()
     ensures { JoiningStepsBack }
-{
-    0
-}
+{}
 
-pub fn finding_ends_at_root() -> u8
+pub fn finding_ends_at_root()
     ensures { FindingEndsAtRoot }
-{
-    0
-}
+{}

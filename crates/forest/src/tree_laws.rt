@@ -1,44 +1,30 @@
 // Theorems on the tree of a network, and on what is read from it.
 ghost use Rattle.forest.specs.TreeLaws.{ChildrenStandLater, EntriesAreCoreNumbers, HolderIsFound, PickingLists, TreeIsRight, VerticesForK, VerticesGatherCircles};
 
-pub fn tree_is_right() -> u8
+pub fn tree_is_right()
     ensures { TreeIsRight }
-{
-    0
-}
+{}
 
-pub fn vertices_for_k() -> u8
+pub fn vertices_for_k()
     ensures { VerticesForK }
-{
-    0
-}
+{}
 
-pub fn entries_are_core_numbers() -> u8
+pub fn entries_are_core_numbers()
     ensures { EntriesAreCoreNumbers }
-{
-    0
-}
+{}
 
-pub fn vertices_gather_circles() -> u8
+pub fn vertices_gather_circles()
     ensures { VerticesGatherCircles }
-{
-    0
-}
+{}
 
-pub fn children_stand_later() -> u8
+pub fn children_stand_later()
     ensures { ChildrenStandLater }
-{
-    0
-}
+{}
 
-pub fn picking_lists() -> u8
+pub fn picking_lists()
     ensures { PickingLists }
-{
-    0
-}
+{}
 
-pub fn holder_is_found() -> u8
+pub fn holder_is_found()
     ensures { HolderIsFound }
-{
-    0
-}
+{}

@@ -3,36 +3,26 @@ ghost use Rattle.theory.specs.CircleLaws.{ApartOrNested, CircleFormsAgree, Circl
 ghost use Rattle.theory.specs.Circles.{Circle, LevelCircle};
 ghost use Rattle.theory.specs.Orders.{Order, StrictOrder};
 
-pub fn circle_forms_agree() -> u8
+pub fn circle_forms_agree()
     ensures { CircleFormsAgree }
-{
-    0
-}
+{}
 
-pub fn circles_are_components() -> u8
+pub fn circles_are_components()
     ensures published { CirclesAreComponents Circle StrictOrder }
     ensures level { CirclesAreComponents LevelCircle Order }
-{
-    0
-}
+{}
 
-pub fn circles_are_apart_or_nested() -> u8
+pub fn circles_are_apart_or_nested()
     ensures published { ApartOrNested Circle StrictOrder }
     ensures level { ApartOrNested LevelCircle Order }
-{
-    0
-}
+{}
 
-pub fn circles_are_nested_by_k() -> u8
+pub fn circles_are_nested_by_k()
     ensures published { NestedByK Circle StrictOrder }
     ensures level { NestedByK LevelCircle Order }
-{
-    0
-}
+{}
 
-pub fn core_number_tells_circles() -> u8
+pub fn core_number_tells_circles()
     ensures published { CoreNumberTellsCircles Circle StrictOrder }
     ensures level { CoreNumberTellsCircles LevelCircle Order }
-{
-    0
-}
+{}

@@ -1,26 +1,18 @@
 // Theorems on cores, components and core numbers.
 ghost use Rattle.theory.specs.CoreLaws.{ComponentIsGreatest, CoreIsGreatest, CoreNumberIsGreatest, CoreSizesSumToCoreNumbers};
 
-pub fn core_is_greatest() -> u8
+pub fn core_is_greatest()
     ensures { CoreIsGreatest }
-{
-    0
-}
+{}
 
-pub fn component_is_greatest() -> u8
+pub fn component_is_greatest()
     ensures { ComponentIsGreatest }
-{
-    0
-}
+{}
 
-pub fn core_number_is_greatest() -> u8
+pub fn core_number_is_greatest()
     ensures { CoreNumberIsGreatest }
-{
-    0
-}
+{}
 
-pub fn core_sizes_sum_to_core_numbers() -> u8
+pub fn core_sizes_sum_to_core_numbers()
     ensures { CoreSizesSumToCoreNumbers }
-{
-    0
-}
+{}

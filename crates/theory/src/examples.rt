@@ -1,38 +1,26 @@
 // The bow tie and two pairs, computed and turned into theorems, and the tempting errors refuted.
 ghost use Rattle.theory.specs.Example.{BowTieCoreNumbers, BowTieListed, FallenNeighbourCounts, PairsListed, TriangleIsNoCircle, TwoPartsAreNoCircle};
 
-pub fn bow_tie_core_numbers() -> u8
+pub fn bow_tie_core_numbers()
     ensures { BowTieCoreNumbers }
-{
-    0
-}
+{}
 
-pub fn bow_tie_listed() -> u8
+pub fn bow_tie_listed()
     ensures { BowTieListed }
-{
-    0
-}
+{}
 
-pub fn pairs_listed() -> u8
+pub fn pairs_listed()
     ensures { PairsListed }
-{
-    0
-}
+{}
 
-pub fn triangle_is_no_circle() -> u8
+pub fn triangle_is_no_circle()
     ensures { TriangleIsNoCircle }
-{
-    0
-}
+{}
 
-pub fn two_parts_are_no_circle() -> u8
+pub fn two_parts_are_no_circle()
     ensures { TwoPartsAreNoCircle }
-{
-    0
-}
+{}
 
-pub fn fallen_neighbour_counts() -> u8
+pub fn fallen_neighbour_counts()
     ensures { FallenNeighbourCounts }
-{
-    0
-}
+{}

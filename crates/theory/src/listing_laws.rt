@@ -1,44 +1,30 @@
 // Theorems on orders with the ties broken, on lists of members, and on the listing.
 ghost use Rattle.theory.specs.ListingLaws.{DataIsLawful, LevelListingIsRight, ListingIsRight, MembersRise, PeelingLists, SmallerNumberIsWeaker, TiesAreBroken};
 
-pub fn ties_are_broken() -> u8
+pub fn ties_are_broken()
     ensures { TiesAreBroken }
-{
-    0
-}
+{}
 
-pub fn smaller_number_is_weaker() -> u8
+pub fn smaller_number_is_weaker()
     ensures { SmallerNumberIsWeaker }
-{
-    0
-}
+{}
 
-pub fn data_is_lawful() -> u8
+pub fn data_is_lawful()
     ensures { DataIsLawful }
-{
-    0
-}
+{}
 
-pub fn members_rise() -> u8
+pub fn members_rise()
     ensures { MembersRise }
-{
-    0
-}
+{}
 
-pub fn level_listing_is_right() -> u8
+pub fn level_listing_is_right()
     ensures { LevelListingIsRight }
-{
-    0
-}
+{}
 
-pub fn listing_is_right() -> u8
+pub fn listing_is_right()
     ensures { ListingIsRight }
-{
-    0
-}
+{}
 
-pub fn peeling_lists() -> u8
+pub fn peeling_lists()
     ensures { PeelingLists }
-{
-    0
-}
+{}

@@ -1,38 +1,26 @@
 // Theorems that the loops of a finder rest on.
 ghost use Rattle.theory.specs.LoopLaws.{CascadeEndsAtCore, CascadeKeepsCore, CoreNumberIsMet, DegreeByList, DegreeFallsByOne, SearchEndsAtComponent};
 
-pub fn cascade_ends_at_core() -> u8
+pub fn cascade_ends_at_core()
     ensures { CascadeEndsAtCore }
-{
-    0
-}
+{}
 
-pub fn cascade_keeps_core() -> u8
+pub fn cascade_keeps_core()
     ensures { CascadeKeepsCore }
-{
-    0
-}
+{}
 
-pub fn search_ends_at_component() -> u8
+pub fn search_ends_at_component()
     ensures { SearchEndsAtComponent }
-{
-    0
-}
+{}
 
-pub fn core_number_is_met() -> u8
+pub fn core_number_is_met()
     ensures { CoreNumberIsMet }
-{
-    0
-}
+{}
 
-pub fn degree_falls_by_one() -> u8
+pub fn degree_falls_by_one()
     ensures { DegreeFallsByOne }
-{
-    0
-}
+{}
 
-pub fn degree_by_list() -> u8
+pub fn degree_by_list()
     ensures { DegreeByList }
-{
-    0
-}
+{}

@@ -1,32 +1,22 @@
 // Theorems on peeling, on who is dropped, and on innermost circles.
 ghost use Rattle.theory.specs.PeelingLaws.{DroppedAreOwn, InnermostDropsAll, InnermostIsTested, PeelingMeetsCirclesOnce, RoundStaysInComponent};
 
-pub fn peeling_meets_circles_once() -> u8
+pub fn peeling_meets_circles_once()
     ensures { PeelingMeetsCirclesOnce }
-{
-    0
-}
+{}
 
-pub fn round_stays_in_component() -> u8
+pub fn round_stays_in_component()
     ensures { RoundStaysInComponent }
-{
-    0
-}
+{}
 
-pub fn dropped_are_own() -> u8
+pub fn dropped_are_own()
     ensures { DroppedAreOwn }
-{
-    0
-}
+{}
 
-pub fn innermost_drops_all() -> u8
+pub fn innermost_drops_all()
     ensures { InnermostDropsAll }
-{
-    0
-}
+{}
 
-pub fn innermost_is_tested() -> u8
+pub fn innermost_is_tested()
     ensures { InnermostIsTested }
-{
-    0
-}
+{}
