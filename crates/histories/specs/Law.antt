@@ -15,7 +15,7 @@ use Rattle.theory.specs.Circles.{Circle}
 use Rattle.theory.specs.Listing.{Entry, Lists}
 use Rattle.cores.specs.Answer.{cores_fault}
 use Rattle.queries.specs.declared.query.Query.{Query}
-use Rattle.queries.specs.Asking.{choice_of}
+use Rattle.queries.specs.Choosing.{choice_of}
 use Rattle.queries.specs.Refusals.{peel_fault, pick_fault, plant_fault}
 use Rattle.histories.specs.declared.call.Call.{Call}
 use Rattle.histories.specs.declared.call.Call.TheVariants.{Change, Cores, Peel, Plant, Pick, Holder}
@@ -53,7 +53,7 @@ pub record Planted {C : Type 0} (calls : List (Call C)) (answers : List Told) (i
 
 -- the listing L of the query: the r strongest circles, or all if there are fewer, each once, rising, and no other set
 abbrev pub Listed : {G : Type 0} → (G → G → Bool) → Net G → Query → List Entry → Type 0
-Listed le net q = Lists (graph_of net) (order_of le net) q.k q.r (choice_of q.innermost)
+Listed le net q = Lists (graph_of net) (order_of le net) q.k q.r (choice_of q.choice)
 
 abbrev pub Right : {G D C : Type 0} → (G → G → Bool) → Edits G D C → D → ℕ → Type 0 → Call C → Told → Type 0
 Right le k d size planted (Change e) a = a ≡ said (k.refusal d e) done

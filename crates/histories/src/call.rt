@@ -2,7 +2,7 @@
 use queries::Query;
 
 // Places for members are those of the row for core numbers too.
-#[derive(Clone, Copy)]
+#[derive(Clone, Copy, PartialEq, Eq, Debug)]
 pub struct Lent {
     pub scratch: usize,
     pub waiting: usize,
@@ -10,7 +10,7 @@ pub struct Lent {
     pub places: usize,
 }
 
-#[derive(Clone, Copy)]
+#[derive(Clone, Copy, PartialEq, Eq, Debug)]
 pub enum Call<E> {
     Change(E),
     Cores(Lent),

@@ -1,3 +1,4 @@
+pub mod Choosing
 pub mod Asking
 pub mod Written
 pub mod Refusals

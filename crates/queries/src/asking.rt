@@ -1,13 +1,10 @@
 // Making a query, and what it asks for.
-ghost use Rattle.std.specs.Prelude.{◌≡◌, ◌≤◌, IfOk};
+ghost use Rattle.std.specs.Prelude.{◌≡◌, ◌≤◌, ◌↔◌, IfOk, IsTrue};
 ghost use Rattle.queries.specs.Asking.{query_fault, fault_of, Asks};
 
-use crate::query::Query;
+use crate::choice::Choice;
+use crate::query::{MOST_CIRCLES, MOST_LINKS, Query};
 use faults::CallFault;
-
-const MOST_LINKS: u32 = 4095;
-
-const MOST_CIRCLES: u32 = 1024;
 
 impl Query {
     // The choice is 0 for every circle, 1 for the innermost ones.
@@ -15,33 +12,37 @@ impl Query {
         ensures cases { fault_of result ≡ query_fault k r choice }
         ensures asks { IfOk result (λ q. Asks q k r choice) }
     {
-        if k < 1 || k > MOST_LINKS || r < 1 || r > MOST_CIRCLES || choice > 1 {
-            return Err(CallFault::BadQuery);
+        let choice = Choice::try_from(choice)?;
+        if (1..=MOST_LINKS).contains(&k) && (1..=MOST_CIRCLES).contains(&r) {
+            Ok(Query { k, r, choice })
+        } else {
+            Err(CallFault::BadQuery)
         }
-        Ok(Query {
-            k,
-            r,
-            innermost: choice == 1,
-        })
     }
 
     pub fn k(&self) -> u32
         ensures value { result ≡ self.now.k }
-        ensures limits { (1 ≤ result) × (result ≤ 4095) }
+        ensures limits { (1 ≤ result) × (result ≤ MOST_LINKS) }
     {
         self.k
     }
 
     pub fn r(&self) -> u32
         ensures value { result ≡ self.now.r }
-        ensures limits { (1 ≤ result) × (result ≤ 1024) }
+        ensures limits { (1 ≤ result) × (result ≤ MOST_CIRCLES) }
     {
         self.r
     }
 
-    pub fn innermost(&self) -> bool
-        ensures { result ≡ self.now.innermost }
+    pub fn choice(&self) -> Choice
+        ensures { result ≡ self.now.choice }
     {
-        self.innermost
+        self.choice
+    }
+
+    pub fn innermost(&self) -> bool
+        ensures { IsTrue result ↔ (self.now.choice ≡ Choice.Innermost) }
+    {
+        self.choice == Choice::Innermost
     }
 }

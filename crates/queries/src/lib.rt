@@ -2,8 +2,10 @@
 #![tactic(auto)]
 
 mod asking;
+pub mod choice;
 pub mod head;
 pub mod query;
 
+pub use choice::Choice;
 pub use head::Head;
 pub use query::Query;

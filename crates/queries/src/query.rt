@@ -1,12 +1,19 @@
 // What is asked for: circles for k, at most r of them, every one or the innermost.
 ghost use Rattle.std.specs.Prelude.{◌≤◌};
+ghost use Rattle.queries.specs.declared.query.TheConstants.{MOST_LINKS, MOST_CIRCLES};
+
+use crate::choice::Choice;
+
+pub const MOST_LINKS: u32 = 4095;
+
+pub const MOST_CIRCLES: u32 = 1024;
 
 // There is no query outside its limits.
-#[derive(Clone, Copy)]
+#[derive(Clone, Copy, PartialEq, Eq, Debug)]
 pub struct Query {
     pub(crate) k: u32,
     pub(crate) r: u32,
-    pub(crate) innermost: bool,
-    ghost links: { (1 ≤ k) × (k ≤ 4095) },
-    ghost circles: { (1 ≤ r) × (r ≤ 1024) },
+    pub(crate) choice: Choice,
+    ghost links: { (1 ≤ k) × (k ≤ MOST_LINKS) },
+    ghost circles: { (1 ≤ r) × (r ≤ MOST_CIRCLES) },
 }
