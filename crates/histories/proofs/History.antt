@@ -1,20 +1,26 @@
 -- Histories that grow by one call. Assumes nothing.
-use Rattle.std.proofs.Common.{◌≡◌, ℕ, ◌+◌, ◌<◌, ◌≤◌, Bool, true, false, List, [], ◌∷◌, ◌++◌, length, get_or, take, sym, refl, ap, ◌∙◌, subst, inl, inr, arith}
+use Rattle.std.proofs.Common.{◌≡◌, ℕ, ◌+◌, ◌<◌, ◌≤◌, Bool, true, false, List, [], ◌∷◌, ◌++◌, length, take, sym, refl, ap, ◌∙◌, subst, inl, inr, arith}
 use Rattle.std.proofs.lemmas.List.{get_or_append_left, length-append, take-append-le, take_all}
 use Rattle.std.proofs.lemmas.Bool.{cases_lt, true≢false}
+use Rattle.std.proofs.Math.Seq.{get_or-append_seam}
 use Rattle.meaning.specs.Persons.{graph_of, order_of}
 use Rattle.histories.specs.declared.call.Call.{Call}
-use Rattle.histories.specs.declared.call.Call.TheVariants.{Change, Cores, Peel, Plant, Pick, Holder}
+use Rattle.histories.specs.declared.call.Call.TheVariants.{Pick, Holder}
 use Rattle.histories.specs.Edits.{Edits, drawn_by}
 use Rattle.histories.specs.Answers.{Told, granted}
 use Rattle.histories.specs.Law.{is_change, is_plant, call_at, answer_at, Planted, Right, Nests, Kept}
 
-last_at : {X : Type 0} (xs : List X) (x d : X) (i : ℕ) → i ≡ length xs → get_or (xs ++ x ∷ []) i d ≡ x
-last_at xs x d i e = ap (λ t. get_or (xs ++ x ∷ []) t d) e ∙ at xs
-  where
-    at : (ys : List _) → get_or (ys ++ x ∷ []) (length ys) d ≡ x
-    at [] = refl
-    at (y ∷ ys) = at ys
+-- where two histories have the same first calls and answers, a tree planted in one is planted in the other
+planted_along : {C : Type 0} (calls calls' : List (Call C)) (answers answers' : List Told) (i : ℕ)
+    → ((m : ℕ) → m < i → call_at calls m ≡ call_at calls' m) → ((m : ℕ) → m < i → answer_at answers m ≡ answer_at answers' m)
+    → Planted calls answers i → Planted calls' answers' i
+planted_along calls calls' answers answers' i c a h = record {
+  place = h.place;
+  before = h.before;
+  plant = sym (ap is_plant (c h.place h.before)) ∙ h.plant;
+  given = sym (ap granted (a h.place h.before)) ∙ h.given;
+  since = λ m l b x y. h.since m l b (ap is_change (c m b) ∙ x) (ap granted (a m b) ∙ y);
+}
 
 module _ {C : Type 0} (calls cs : List (Call C)) (answers zs : List Told) where
   call_kept : (i : ℕ) → i < length calls → call_at (calls ++ cs) i ≡ call_at calls i
@@ -24,33 +30,19 @@ module _ {C : Type 0} (calls cs : List (Call C)) (answers zs : List Told) where
   answer_kept i l = get_or_append_left answers zs _ i l
 
   pub planted_on : (i : ℕ) → i ≤ length calls → i ≤ length answers → Planted calls answers i → Planted (calls ++ cs) (answers ++ zs) i
-  planted_on i p q h = record {
-    place = h.place;
-    before = h.before;
-    plant = ap is_plant (call_kept h.place (omega (arith, h.before))) ∙ h.plant;
-    given = ap granted (answer_kept h.place (omega (arith, h.before))) ∙ h.given;
-    since = λ m a b x y. h.since m a b
-        (sym (ap is_change (call_kept m (omega arith))) ∙ x)
-        (sym (ap granted (answer_kept m (omega arith))) ∙ y);
-  }
+  planted_on i p q = planted_along calls (calls ++ cs) answers (answers ++ zs) i
+      (λ m l. sym (call_kept m (omega arith))) (λ m l. sym (answer_kept m (omega arith)))
 
   pub planted_back : (i : ℕ) → i ≤ length calls → i ≤ length answers → Planted (calls ++ cs) (answers ++ zs) i → Planted calls answers i
-  planted_back i p q h = record {
-    place = h.place;
-    before = h.before;
-    plant = sym (ap is_plant (call_kept h.place (omega (arith, h.before)))) ∙ h.plant;
-    given = sym (ap granted (answer_kept h.place (omega (arith, h.before)))) ∙ h.given;
-    since = λ m a b x y. h.since m a b
-        (ap is_change (call_kept m (omega arith)) ∙ x)
-        (ap granted (answer_kept m (omega arith)) ∙ y);
-  }
+  planted_back i p q = planted_along (calls ++ cs) calls (answers ++ zs) answers i
+      (λ m l. call_kept m (omega arith)) (λ m l. answer_kept m (omega arith))
 
 module _ {C : Type 0} (calls : List (Call C)) (answers : List Told) (c : Call C) (a : Told) (e : length answers ≡ length calls) where
   call_last : (i : ℕ) → i ≡ length calls → call_at (calls ++ c ∷ []) i ≡ c
-  call_last i h = last_at calls c _ i h
+  call_last i h = ap (λ t. call_at (calls ++ c ∷ []) t) h ∙ get_or-append_seam calls c [] _
 
   answer_last : (i : ℕ) → i ≡ length calls → answer_at (answers ++ a ∷ []) i ≡ a
-  answer_last i h = last_at answers a _ i (omega arith)
+  answer_last i h = ap (λ t. answer_at (answers ++ a ∷ []) t) (h ∙ sym e) ∙ get_or-append_seam answers a [] _
 
   -- a call that is no granted change leaves the tree
   pub still_planted : (is_change c ≡ true → granted a ≡ true → ⊥) → Planted calls answers (length calls) → Planted (calls ++ c ∷ []) (answers ++ a ∷ []) (length calls + 1)
@@ -95,12 +87,9 @@ module _ {C : Type 0} (calls : List (Call C)) (answers : List Told) (c : Call C)
 
 -- what is right stays so where the tree is there in the same cases
 right_moved : {G D C : Type 0} (le : G → G → Bool) (k : Edits G D C) (d : D) (size : ℕ) (P Q : Type 0) (c : Call C) (a : Told) → (P → Q) → (Q → P) → Right le k d size P c a → Right le k d size Q c a
-right_moved le k d size P Q (Change e) a f g h = h
-right_moved le k d size P Q (Cores m) a f g h = h
-right_moved le k d size P Q (Peel q m) a f g h = h
-right_moved le k d size P Q (Plant m) a f g h = h
 right_moved le k d size P Q (Pick q m) a f g h = ((λ y. h.0 (g y)), (λ n. h.1 (λ p. n (f p))))
 right_moved le k d size P Q (Holder q w) a f g h = ((λ y. h.0 (g y)), (λ n. h.1 (λ p. n (f p))))
+right_moved le k d size P Q _ a f g h = h
 
 abbrev NestsAt : {G D C : Type 0} → (G → G → Bool) → Edits G D C → D → List (Call C) → Type 0
 NestsAt le k d0 calls = Nests (graph_of (k.means (drawn_by k d0 calls))) (order_of le (k.means (drawn_by k d0 calls)))

@@ -1,7 +1,7 @@
 -- Unordered pairs, and the links of a network that they stand for. Assumes nothing.
-use Rattle.std.proofs.Common.{◌≡◌, ℕ, ◌<◌, min, max, Bool, true, false, cond, not, ◌&&◌, ◌||◌, eqb, ltb, ◌⊎◌, Some, None, Option, sym, refl, ap, ◌∙◌, inl, inr, arith}
+use Rattle.std.proofs.Common.{◌≡◌, ℕ, ◌<◌, min, max, Bool, true, false, cond, not, ◌&&◌, ◌||◌, eqb, ltb, Some, None, Option, sym, refl, ap, ◌∙◌, inl, inr, arith}
 use mathlib.Core.Path.{fun_ext}
-use Rattle.std.proofs.lemmas.Bool.{cases_lt, lt-ltb, le-ltb}
+use Rattle.std.proofs.lemmas.Bool.{cases_order, lt-ltb, le-ltb}
 use Rattle.std.proofs.lemmas.Bool.Decides.{nat_tests}
 use borrow.Author.Tests.{eq-eqb}
 use Rattle.networks.specs.Net.{Net, Sound}
@@ -13,19 +13,16 @@ use Rattle.histories.specs.declared.edit.Edit.TheVariants.{Link, Unlink}
 use Rattle.histories.specs.Edits.{after_edit}
 use Rattle.histories.specs.Pairs.{net_of, drawn_from, is_the_pair, changed, pair_edits}
 
-three_ways : (u v : ℕ) → (u < v) ⊎ ((v < u) ⊎ (u ≡ v))
-three_ways u v = elim (cases_lt u v) [ inl h ↦ inl h | inr h ↦ elim (cases_lt v u) [ inl i ↦ inr (inl i) | inr i ↦ inr (inr (omega arith)) ] ]
-
 module _ {G : Type 0} (net : Net G) (sound : Sound net) where
   asked : (a b u v : ℕ) → min u v ≡ a → max u v ≡ b → a < b → (ltb (min u v) (max u v) && net.linked (min u v) (max u v)) ≡ net.linked a b
   asked a b u v e f h =
       ap (λ x. ltb x (max u v) && net.linked x (max u v)) e ∙ ap (λ y. ltb a y && net.linked a y) f ∙ ap (λ t. t && net.linked a b) (lt-ltb a b h)
 
   linked_min_max : (u v : ℕ) → (ltb (min u v) (max u v) && net.linked (min u v) (max u v)) ≡ net.linked u v
-  linked_min_max u v = elim (three_ways u v) [
-    | inl h ↦ asked u v u v (omega arith) (omega arith) h
-    | inr (inl h) ↦ asked v u u v (omega arith) (omega arith) h ∙ sound.bothways v u
-    | inr (inr h) ↦ (let same : min u v ≡ max u v = omega arith in
+  linked_min_max u v = elim (cases_order u v) [
+    | inr (inl h) ↦ asked u v u v (omega arith) (omega arith) h
+    | inr (inr h) ↦ asked v u u v (omega arith) (omega arith) h ∙ sound.bothways v u
+    | inl h ↦ (let same : min u v ≡ max u v = omega arith in
         ap (λ x. x && net.linked (min u v) (max u v)) (le-ltb (min u v) (max u v) (omega arith)) ∙ sym (ap (net.linked u) (sym h) ∙ sound.apart u))
   ]
 

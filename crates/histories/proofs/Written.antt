@@ -1,6 +1,7 @@
 -- A written listing, read back. Assumes nothing.
 use Rattle.std.proofs.Common.{◌≡◌, ℕ, suc, ◌+◌, ◌≤◌, List, [], ◌∷◌, ◌++◌, length, take, drop, Some, None, Option, Result, sym, refl, ap, ◌∙◌, arith}
 use Rattle.std.proofs.lemmas.List.{length-append, take_all, append_assoc}
+use Rattle.std.proofs.Math.Seq.{drop-append_seam, take-append_seam}
 use Rattle.faults.specs.Answers.{answered, unless}
 use Rattle.faults.specs.declared.call_fault.CallFault.{CallFault}
 use Rattle.grades.specs.Places.{onto}
@@ -14,24 +15,16 @@ pub length_heads : (place : ℕ) (es : List Entry) → length (heads_from place 
 length_heads place [] = refl
 length_heads place (e ∷ es) = ap suc (length_heads (place + length e.1) es)
 
-drop_front : {X : Type 0} (xs ys : List X) → drop (length xs) (xs ++ ys) ≡ ys
-drop_front [] ys = refl
-drop_front (x ∷ xs) ys = drop_front xs ys
-
-take_front : {X : Type 0} (xs ys : List X) → take (length xs) (xs ++ ys) ≡ xs
-take_front [] ys = refl
-take_front (x ∷ xs) ys = ap (λ t. x ∷ t) (take_front xs ys)
-
 -- the front of the places that a list was written over is the list
 pub front_onto : {X : Type 0} (xs ys : List X) → length xs ≤ length ys → take (length xs) (onto xs ys) ≡ xs
-front_onto xs ys h = ap (λ t. take (length xs) (t ++ drop (length xs) ys)) (take_all (length ys) xs h) ∙ take_front xs (drop (length xs) ys)
+front_onto xs ys h = ap (λ t. take (length xs) (t ++ drop (length xs) ys)) (take_all (length ys) xs h) ∙ take-append_seam xs (drop (length xs) ys)
 
 reads_from : (before : List ℕ) (es : List Entry) (behind : List ℕ) → circles_in (heads_from (length before) es) (before ++ (members_of es ++ behind)) ≡ es
 reads_from before [] behind = refl
 reads_from before (e ∷ es) behind =
     let whole = before ++ ((e.1 ++ members_of es) ++ behind) in
-    let first : drop (length before) whole ≡ e.1 ++ (members_of es ++ behind) = drop_front before ((e.1 ++ members_of es) ++ behind) ∙ append_assoc e.1 (members_of es) behind in
-    let mine : circle_in whole (head_of e (length before)) ≡ e = ap (λ t. (e.0, t)) (ap (take (length e.1)) first ∙ take_front e.1 (members_of es ++ behind)) in
+    let first : drop (length before) whole ≡ e.1 ++ (members_of es ++ behind) = drop-append_seam before ((e.1 ++ members_of es) ++ behind) ∙ append_assoc e.1 (members_of es) behind in
+    let mine : circle_in whole (head_of e (length before)) ≡ e = ap (λ t. (e.0, t)) (ap (take (length e.1)) first ∙ take-append_seam e.1 (members_of es ++ behind)) in
     let same : (before ++ e.1) ++ (members_of es ++ behind) ≡ whole = append_assoc before e.1 (members_of es ++ behind) ∙ ap (λ t. before ++ t) (sym (append_assoc e.1 (members_of es) behind)) in
     let rest : circles_in (heads_from (length before + length e.1) es) whole ≡ es =
     ap (λ t. circles_in (heads_from t es) whole) (sym (length-append before e.1))

@@ -31,12 +31,8 @@ said None a = a
 said (Some f) a = refused f
 
 abbrev pub granted : Told → Bool
-granted done = true
 granted (refused f) = false
-granted (numbers cs) = true
-granted (circles es) = true
-granted (entries n) = true
-granted (holder h) = true
+granted _ = true
 
 abbrev pub Numbered : Graph → List ℕ → Type 0
 Numbered g cs = (length cs ≡ g.size) × ((u : ℕ) → u < g.size → IsCore g u (slice_index cs u))

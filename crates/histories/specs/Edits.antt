@@ -8,7 +8,7 @@ use Rattle.faults.specs.Answers.{unless}
 use Rattle.faults.specs.declared.call_fault.CallFault.{CallFault}
 use Rattle.networks.specs.Net.{Net}
 use Rattle.histories.specs.declared.call.Call.{Call}
-use Rattle.histories.specs.declared.call.Call.TheVariants.{Change, Cores, Peel, Plant, Pick, Holder}
+use Rattle.histories.specs.declared.call.Call.TheVariants.{Change}
 
 pub record Edits (G D C : Type 0) : Type 0 where
   pub refusal : D → C → Option CallFault
@@ -20,11 +20,7 @@ after_edit k d e = unless (k.refusal d e) (k.effect d e) d
 
 abbrev pub after : {G D C : Type 0} → Edits G D C → D → Call C → D
 after k d (Change e) = after_edit k d e
-after k d (Cores m) = d
-after k d (Peel q m) = d
-after k d (Plant m) = d
-after k d (Pick q m) = d
-after k d (Holder q w) = d
+after k d _ = d
 
 abbrev pub drawn_by : {G D C : Type 0} → Edits G D C → D → List (Call C) → D
 drawn_by k d calls = fold (after k) d calls

@@ -24,19 +24,11 @@ use Rattle.histories.specs.Answers.{Told, done, refused, numbers, circles, entri
 
 abbrev pub is_change : {C : Type 0} → Call C → Bool
 is_change (Change e) = true
-is_change (Cores m) = false
-is_change (Peel q m) = false
-is_change (Plant m) = false
-is_change (Pick q m) = false
-is_change (Holder q w) = false
+is_change _ = false
 
 abbrev pub is_plant : {C : Type 0} → Call C → Bool
-is_plant (Change e) = false
-is_plant (Cores m) = false
-is_plant (Peel q m) = false
 is_plant (Plant m) = true
-is_plant (Pick q m) = false
-is_plant (Holder q w) = false
+is_plant _ = false
 
 abbrev pub call_at : {C : Type 0} → List (Call C) → ℕ → Call C
 call_at calls i = slice_index_or calls i (Cores (record { scratch = 0; waiting = 0; heads = 0; places = 0 }))

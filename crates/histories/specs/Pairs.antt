@@ -39,9 +39,9 @@ abbrev pub is_the_pair : ℕ → ℕ → ℕ → ℕ → Bool
 is_the_pair u v x y = x == min u v && y == max u v
 
 abbrev pub changed : {G : Type 0} → Drawn G → Edit G → Drawn G
-changed d (Link u v) = record { persons = d.persons; ceiling = d.ceiling; grades = d.grades; paired = λ x y. is_the_pair u v x y || d.paired x y }
-changed d (Unlink u v) = record { persons = d.persons; ceiling = d.ceiling; grades = d.grades; paired = λ x y. not (is_the_pair u v x y) && d.paired x y }
-changed d (Regrade u g) = record { persons = d.persons; ceiling = d.ceiling; grades = slice_set d.grades u g; paired = d.paired }
+changed d (Link u v) = record d { paired = λ x y. is_the_pair u v x y || d.paired x y }
+changed d (Unlink u v) = record d { paired = λ x y. not (is_the_pair u v x y) && d.paired x y }
+changed d (Regrade u g) = record d { grades = slice_set d.grades u g }
 
 abbrev pub pair_edits : {G : Type 0} → Edits G (Drawn G) (Edit G)
 pair_edits = record { refusal = refused_there; effect = changed; means = net_of }
