@@ -1,4 +1,6 @@
 // What a call can be refused for, in the order of the numbers 6 to 17.
+ghost use Rattle.std.specs.Prelude.{◌≡◌};
+ghost use Rattle.faults.specs.Numbers.{number_of};
 
 #[derive(Clone, Copy, PartialEq, Eq, Debug)]
 pub enum CallFault {
@@ -26,4 +28,26 @@ pub enum CallFault {
     NoRoom,
     // the person is the weakest of no circle for k
     NotWeakest,
+}
+
+// The number by which a refusal is told to people and programs.
+impl From<CallFault> for u8 {
+    ghost from_gives = { λ fault number. number ≡ number_of fault };
+
+    fn from(fault: CallFault) -> u8 {
+        match fault {
+            CallFault::TooLarge => 6,
+            CallFault::ShortMemory => 7,
+            CallFault::NoSuchPerson => 8,
+            CallFault::SamePerson => 9,
+            CallFault::AlreadyLinked => 10,
+            CallFault::NotLinked => 11,
+            CallFault::AtCeiling => 12,
+            CallFault::BadQuery => 13,
+            CallFault::NoTree => 14,
+            CallFault::ShortScratch => 15,
+            CallFault::NoRoom => 16,
+            CallFault::NotWeakest => 17,
+        }
+    }
 }
