@@ -1,6 +1,7 @@
 // The element kinds that a heap can hold: those with a total order.
 ghost use Rattle.std.specs.Prelude.{◌≡◌, Bool, true, false};
 
+// An order of its own and not Ord, which asks that two are equal where they are level.
 pub trait Ordered {
     // Two elements may be level: each is then at most the other.
     ghost at_most: { Self → Self → Bool };
