@@ -33,10 +33,10 @@ pub(crate) fn table_length(kind: u8) -> usize
 
 // A regrade also holds a grade.
 pub(crate) fn length_of<G: Wire>(kind: u8) -> usize
-    ensures { result ≡ length_of G.Wire.size kind }
+    ensures { result ≡ length_of G.WIDTH kind }
 {
     if kind == request::REGRADE {
-        table_length(kind) + G::width()
+        table_length(kind) + G::WIDTH
     } else {
         table_length(kind)
     }

@@ -18,8 +18,8 @@ use crate::{reply, request};
 use grades::Wire;
 
 pub fn read_request<G: Wire>(line: &[u8]) -> Result<Request<G>, FrameFault>
-    ensures answer { result ≡ read_request G.Wire.grade_of G.Wire.size line.now }
-    ensures refusal { refusal_in result ≡ request_refusal G.Wire.size line.now }
+    ensures answer { result ≡ read_request G.Wire.grade_of G.WIDTH line.now }
+    ensures refusal { refusal_in result ≡ request_refusal G.WIDTH line.now }
     ensures exact { Exact (RequestFits G.Wire.InRange) (request_line G.Wire.bytes_of) line.now result }
 {
     let mut frame = BLANK;
@@ -28,7 +28,7 @@ pub fn read_request<G: Wire>(line: &[u8]) -> Result<Request<G>, FrameFault>
 }
 
 fn request_in<G: Wire>(frame: Frame) -> Result<Request<G>, FrameFault>
-    ensures { result ≡ answered (request_fault G.Wire.size (held frame)) (request_of G.Wire.grade_of G.Wire.size (held frame)) }
+    ensures { result ≡ answered (request_fault G.WIDTH (held frame)) (request_of G.Wire.grade_of G.WIDTH (held frame)) }
 {
     let bytes = contents(&frame);
     let kind = byte_at(bytes, 0);
@@ -40,15 +40,15 @@ fn request_in<G: Wire>(frame: Frame) -> Result<Request<G>, FrameFault>
 }
 
 fn request_of<G: Wire>(bytes: &[u8]) -> Option<Request<G>>
-    requires { length bytes.now ≡ length_of G.Wire.size (kind_in bytes.now) }
-    ensures { result ≡ request_of G.Wire.grade_of G.Wire.size bytes.now }
+    requires { length bytes.now ≡ length_of G.WIDTH (kind_in bytes.now) }
+    ensures { result ≡ request_of G.Wire.grade_of G.WIDTH bytes.now }
 {
     let u = word_at(bytes, 1);
     let v = word_at(bytes, 3);
     let choice = byte_at(bytes, 5);
     match byte_at(bytes, 0) {
         request::OPEN => Some(Request::Open { n: u }),
-        request::REGRADE => match G::read(&bytes[3..3 + G::width()]) {
+        request::REGRADE => match G::read(&bytes[3..3 + G::WIDTH]) {
             Some(grade) => Some(Request::Regrade { person: u, grade }),
             None => None,
         },

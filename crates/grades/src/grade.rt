@@ -1,10 +1,13 @@
 // What a kind of grade owes: a test whether one grade is at most another, with two laws.
-ghost use Rattle.std.specs.Prelude.{◌≡◌, Bool, true, false};
+ghost use Rattle.std.specs.Prelude.{◌≡◌, ℕ, Bool, true, false};
 
+// An order of its own and not Ord, which asks that two are equal where they are level.
 pub trait Grade: Copy {
     ghost at_most: { Self → Self → Bool };
 
-    // How many bytes a grade takes in a frame.
+    // how many bytes a grade takes in a frame
+    ghost WIDTH: { ℕ };
+
     const WIDTH: usize;
 
     fn at_most(&self, other: &Self) -> bool

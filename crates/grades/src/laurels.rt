@@ -7,7 +7,7 @@ use crate::grade::Grade;
 use crate::places::write_front;
 use crate::wire::Wire;
 
-#[derive(Clone, Copy, PartialEq, Eq, Debug)]
+#[derive(Clone, Copy, PartialEq, Eq, PartialOrd, Ord, Debug)]
 pub struct Laurels {
     pub class: u8,
     pub score: u32,
@@ -16,6 +16,8 @@ pub struct Laurels {
 impl Grade for Laurels {
     ghost at_most = { λ a b. nat_lt a.class b.class || (a.class == b.class && nat_le a.score b.score) };
 
+    ghost WIDTH = { 5 };
+
     const WIDTH: usize = 5;
 
     ghost total = { Prim.search rules };
@@ -23,13 +25,11 @@ impl Grade for Laurels {
     ghost transitive = { Prim.search rules };
 
     fn at_most(&self, other: &Laurels) -> bool {
-        self.class < other.class || (self.class == other.class && self.score <= other.score)
+        self <= other
     }
 }
 
 impl Wire for Laurels {
-    ghost size = { 5 };
-
     ghost bytes_of = { laurel_bytes };
 
     ghost grade_of = { laurel_of };
@@ -52,10 +52,6 @@ impl Wire for Laurels {
 
     ghost known = { Prim.search rules };
 
-    fn width() -> usize {
-        Laurels::WIDTH
-    }
-
     fn zero() -> Laurels {
         Laurels { class: 0, score: 0 }
     }
@@ -65,13 +61,11 @@ impl Wire for Laurels {
     }
 
     fn read(bytes: &[u8]) -> Option<Laurels> {
-        match bytes {
-            [class, a, b, c, d] => Some(Laurels {
-                class: *class,
-                score: u32::from_be_bytes([*a, *b, *c, *d]),
-            }),
-            _ => None,
-        }
+        let [class, a, b, c, d]: [u8; 5] = bytes.try_into().ok()?;
+        Some(Laurels {
+            class,
+            score: u32::from_be_bytes([a, b, c, d]),
+        })
     }
 }
 
@@ -80,6 +74,6 @@ fn joined(class: u8, score: u32) -> [u8; 5]
     ensures bytes { result ≡ class ∷ bytes32 score }
     ensures ranged { (class < 256) × (score < 2 ^ 32) }
 {
-    let low = score.to_be_bytes();
-    [class, low[0], low[1], low[2], low[3]]
+    let [a, b, c, d] = score.to_be_bytes();
+    [class, a, b, c, d]
 }

@@ -3,10 +3,9 @@ ghost use Rattle.std.specs.Prelude.{◌≡◌};
 ghost use Rattle.grades.specs.Places.{onto};
 
 // As many of `items` as there are places; the places behind stay.
-pub fn write_front(items: &[u8], places: &mut [u8])
+pub fn write_front<T: Copy>(items: &[T], places: &mut [T])
     ensures { places.new ≡ onto items.now places.old }
 {
-    for i in 0..items.len().min(places.len()) {
-        places[i] = items[i];
-    }
+    let n = items.len().min(places.len());
+    places[..n].copy_from_slice(&items[..n]);
 }

@@ -8,11 +8,13 @@ use crate::grade::Grade;
 use crate::places::write_front;
 use crate::wire::Wire;
 
-#[derive(Clone, Copy, PartialEq, Eq, Debug)]
+#[derive(Clone, Copy, PartialEq, Eq, PartialOrd, Ord, Debug)]
 pub struct Points(pub i32);
 
 impl Grade for Points {
     ghost at_most = { λ a b. int_le a.0 b.0 };
+
+    ghost WIDTH = { 4 };
 
     const WIDTH: usize = 4;
 
@@ -21,13 +23,11 @@ impl Grade for Points {
     ghost transitive = { Prim.search rules };
 
     fn at_most(&self, other: &Points) -> bool {
-        self.0 <= other.0
+        self <= other
     }
 }
 
 impl Wire for Points {
-    ghost size = { 4 };
-
     ghost bytes_of = { point_bytes };
 
     ghost grade_of = { point_of };
@@ -50,10 +50,6 @@ impl Wire for Points {
 
     ghost known = { Prim.search rules };
 
-    fn width() -> usize {
-        Points::WIDTH
-    }
-
     fn zero() -> Points {
         Points(0)
     }
@@ -63,9 +59,7 @@ impl Wire for Points {
     }
 
     fn read(bytes: &[u8]) -> Option<Points> {
-        match bytes {
-            [a, b, c, d] => Some(Points(i32::from_be_bytes([*a, *b, *c, *d]))),
-            _ => None,
-        }
+        let bytes = bytes.try_into().ok()?;
+        Some(Points(i32::from_be_bytes(bytes)))
     }
 }

@@ -6,9 +6,6 @@ ghost use Rattle.grades.specs.Places.{Byte, onto};
 use crate::grade::Grade;
 
 pub trait Wire: Grade {
-    // how many bytes
-    ghost size: { ℕ };
-
     // the bytes of a grade, and the grade of some bytes, if they are those of one
     ghost bytes_of: { Self → List ℕ };
 
@@ -18,9 +15,6 @@ pub trait Wire: Grade {
     ghost InRange: { Self → Type 0 };
 
     ghost nought: { Self };
-
-    fn width() -> usize
-        ensures { result ≡ size };
 
     fn zero() -> Self
         ensures { result ≡ nought };
@@ -33,9 +27,9 @@ pub trait Wire: Grade {
     fn read(bytes: &[u8]) -> Option<Self>
         ensures { result ≡ grade_of bytes.now };
 
-    ghost narrow: { size ≤ 16 };
+    ghost narrow: { Self.WIDTH ≤ 16 };
 
-    ghost sized: { (g : Self) → length (bytes_of g) ≡ size };
+    ghost sized: { (g : Self) → length (bytes_of g) ≡ Self.WIDTH };
 
     ghost whole: { (g : Self) → InRange g → AllByRecursion Byte (bytes_of g) };
 
@@ -45,5 +39,5 @@ pub trait Wire: Grade {
 
     ghost ranged: { (bytes : List ℕ) (g : Self) → AllByRecursion Byte bytes → grade_of bytes ≡ Some g → InRange g };
 
-    ghost known: { (bytes : List ℕ) → length bytes ≡ size → is_some (grade_of bytes) ≡ true };
+    ghost known: { (bytes : List ℕ) → length bytes ≡ Self.WIDTH → is_some (grade_of bytes) ≡ true };
 }
