@@ -1,13 +1,11 @@
 -- When a change is granted. Assumes nothing.
-use Rattle.std.proofs.Common.{◌≡◌, ℕ, ◌<◌, min, true, false, leb, is_ok, Some, None, Option, refl, ◌∙◌, arith}
+use Rattle.std.proofs.Common.{◌≡◌, ℕ, ◌<◌, true, false, leb, is_ok, Some, None, Option, refl, ◌∙◌}
 use Rattle.std.proofs.lemmas.Bool.{lt-leb, ne_eqb, or_from, cond-false, cond-true, both_ways}
 use Rattle.faults.specs.Answers.{answered}
 use Rattle.faults.specs.declared.call_fault.CallFault.{CallFault}
-use Rattle.faults.specs.declared.call_fault.CallFault.TheVariants.{AtCeiling}
-use Rattle.std.proofs.lemmas.Bool.Decides.{nat_tests}
 use Rattle.networks.specs.Fixed.{opened_size}
 use Rattle.networks.specs.Net.{Net, degree_of}
-use Rattle.networks.specs.Changes.{pair_fault, link_fault, caps_link, unlink_fault, regrade_fault}
+use Rattle.networks.specs.Changes.{pair_fault, link_fault, unlink_fault, regrade_fault}
 
 module _ {G : Type 0} (net : Net G) (u v : ℕ) (a : u < net.persons) (b : v < net.persons) (ne : u ≡ v → ⊥) where
   -- two persons who are not one: the other refusals decide
@@ -27,13 +25,6 @@ module _ {G : Type 0} (net : Net G) (u v : ℕ) (a : u < net.persons) (b : v < n
 
 pub regrade_granted : {G : Type 0} (net : Net G) (u : ℕ) → u < net.persons → regrade_fault net u ≡ None
 regrade_granted net u a = cond-false _ _ _ (lt-leb net.persons u a)
-
--- the cap's refusal is the first, or the ceiling below decides
-pub cap_refuses : {G : Type 0} (net : Net G) (limit ceiling u v : ℕ) → caps_link limit net u v ≡ true → link_fault (min limit ceiling) net u v ≡ Some AtCeiling
-cap_refuses net limit ceiling u v h = grind (arith, nat_tests)
-
-pub cap_passes : {G : Type 0} (net : Net G) (limit ceiling u v : ℕ) → caps_link limit net u v ≡ false → link_fault (min limit ceiling) net u v ≡ link_fault ceiling net u v
-cap_passes net limit ceiling u v h = grind (arith, nat_tests)
 
 -- what a check that grants, or refuses, says of the refusal
 pub granted_none : (f : Option CallFault) → is_ok (answered f (tt {0})) ≡ true → f ≡ None

@@ -1,10 +1,11 @@
 -- The numbers below n that pass a test, in order: what neighbours are. Assumes nothing.
-use Rattle.std.proofs.Common.{◌≡◌, ℕ, zero, suc, ◌+◌, ◌-◌, ◌<◌, ◌≤◌, Bool, true, false, cond, List, [], ◌∷◌, ◌++◌, length, get_or, Some, None, filter, Option, sym, refl, ap, ◌∙◌, inl, inr, arith}
+use Rattle.std.proofs.Common.{◌≡◌, ℕ, zero, suc, ◌+◌, ◌-◌, ◌<◌, ◌≤◌, Bool, true, false, cond, List, [], ◌∷◌, ◌++◌, length, get_or, take, set, Some, None, filter, Option, sym, refl, ap, ◌∙◌, inl, inr, arith}
 use Rattle.std.specs.List.{slice_get, range_with_len, AllByRecursion}
 use Rattle.std.proofs.lemmas.List.FromFn.{map-range_with_len_more}
 use Rattle.std.proofs.lemmas.List.Elements.{filter-append}
 use Rattle.std.proofs.ByRecursion.{All-get_or, all_kept_by}
 use Rattle.std.proofs.lemmas.List.{append-nil, length-append, map-id}
+use Rattle.std.proofs.lemmas.Grind.{common_steps}
 use Rattle.std.proofs.lemmas.Option.{slice_get-get_or}
 use Rattle.std.proofs.lemmas.Bool.{cases_eq, cases_lt}
 
@@ -25,6 +26,10 @@ nth_some xs i v r e f h = let n = slice_get-get_or xs i v h in cc
 
 pub nth_none : {X : Type 0} (xs : List X) (i : ℕ) (r : Option X) → r ≡ slice_get xs i → r ≡ None → i < length xs → X → ⊥
 nth_none xs i r e f h d = let n = slice_get-get_or xs i d h in let z : ◌≡◌ {A = ℕ} 0 1 = cc in omega arith
+
+-- a place more of a row filled with what the list holds there
+pub nth_next : {X : Type 0} (xs ys : List X) (i : ℕ) (v : X) → i < length xs → i < length ys → v ≡ get_or xs i v → take i ys ≡ take i xs → take (i + 1) (set ys i v) ≡ take (i + 1) xs
+nth_next xs ys i v h l e t = grind (arith, common_steps)
 
 counting_more : (n : ℕ) → range_with_len 0 (n + 1) ≡ range_with_len 0 n ++ n ∷ []
 counting_more n =

@@ -25,14 +25,13 @@ with_grade net u g = record { persons = net.persons; grades = slice_set net.grad
 abbrev pub pair_fault : {G : Type 0} → Net G → ℕ → ℕ → Option CallFault → Option CallFault
 pair_fault net u v other = cond (nat_le net.persons u || nat_le net.persons v) (Some NoSuchPerson) (cond (u == v) (Some SamePerson) other)
 
+-- what a link is refused for whatever the ceiling
+abbrev pub new_pair_fault : {G : Type 0} → Net G → ℕ → ℕ → Option CallFault
+new_pair_fault net u v = pair_fault net u v (cond (net.linked u v) (Some AlreadyLinked) None)
+
 abbrev pub link_fault : {G : Type 0} → ℕ → Net G → ℕ → ℕ → Option CallFault
 link_fault ceiling net u v =
     pair_fault net u v (cond (net.linked u v) (Some AlreadyLinked) (cond (nat_le ceiling (degree_of net u) || nat_le ceiling (degree_of net v)) (Some AtCeiling) None))
-
--- a link is refused for a cap of `limit`, and for nothing before
-abbrev pub caps_link : {G : Type 0} → ℕ → Net G → ℕ → ℕ → Bool
-caps_link limit net u v =
-    not (nat_le net.persons u || nat_le net.persons v) && (not (u == v) && (not (net.linked u v) && (nat_le limit (degree_of net u) || nat_le limit (degree_of net v))))
 
 abbrev pub unlink_fault : {G : Type 0} → Net G → ℕ → ℕ → Option CallFault
 unlink_fault net u v = pair_fault net u v (cond (net.linked u v) None (Some NotLinked))

@@ -1,23 +1,17 @@
 // A degree cap over any network for changing: all is the network's below, but the ceiling is the smaller of its own number and the one below.
 ghost use Rattle.std.specs.Prelude.{◌≡◌, min, ◌∷◌, drop};
-ghost use Rattle.networks.specs.Changes.{caps_link};
 ghost use Rattle.networks.specs.Fixed.{Fixed, capped};
 ghost use Rattle.std.proofs.Common.{rules};
 
 use crate::changing::Changing;
+use crate::checks::check_link;
 use crate::network::Network;
 use crate::opening::Opening;
 use faults::CallFault;
 
 #[derive(Drop)]
-pub struct Capped<N> {
-    pub below: N,
-    pub limit: usize,
-}
-
-#[derive(Drop)]
-pub struct CappedMemory<M> {
-    pub below: M,
+pub struct Capped<B> {
+    pub below: B,
     pub limit: usize,
 }
 
@@ -55,19 +49,6 @@ impl<N: Network> Network for Capped<N> {
     }
 }
 
-impl<N: Network> Capped<N> {
-    // Whether the cap is what a link of u and v is refused for first, whatever the ceiling below.
-    fn caps(&self, u: usize, v: usize) -> bool
-        ensures { result ≡ caps_link self.now.limit (N.Network.meaning self.now.below) u v }
-    {
-        let n = self.persons();
-        if u >= n || v >= n || u == v || self.below.linked(u, v) {
-            return false;
-        }
-        self.below.degree(u) >= self.limit || self.below.degree(v) >= self.limit
-    }
-}
-
 impl<N: Changing> Changing for Capped<N> {
     ghost ceiling_of = { λ s. min s.limit (N.Changing.ceiling_of s.below) };
 
@@ -78,9 +59,7 @@ impl<N: Changing> Changing for Capped<N> {
     }
 
     fn link(&mut self, u: usize, v: usize) -> Result<(), CallFault> {
-        if self.caps(u, v) {
-            return Err(CallFault::AtCeiling);
-        }
+        check_link(&self.below, u, v, self.limit)?;
         self.below.link(u, v)
     }
 
@@ -94,7 +73,7 @@ impl<N: Changing> Changing for Capped<N> {
 }
 
 impl<N: Opening> Opening for Capped<N> {
-    type Memory = CappedMemory<N::Memory>;
+    type Memory = Capped<N::Memory>;
 
     ghost sizes = { λ m. m.limit ∷ N.Opening.sizes m.below };
 
@@ -110,23 +89,21 @@ impl<N: Opening> Opening for Capped<N> {
 
     ghost back = { Prim.search rules };
 
-    fn check(n: usize, memory: &CappedMemory<N::Memory>) -> Result<(), CallFault> {
+    fn check(n: usize, memory: &Capped<N::Memory>) -> Result<(), CallFault> {
         N::check(n, &memory.below)
     }
 
-    fn open(n: usize, memory: CappedMemory<N::Memory>) -> Capped<N> {
-        let limit = memory.limit;
+    fn open(n: usize, memory: Capped<N::Memory>) -> Capped<N> {
         Capped {
             below: N::open(n, memory.below),
-            limit,
+            limit: memory.limit,
         }
     }
 
-    fn close(self) -> CappedMemory<N::Memory> {
-        let limit = self.limit;
-        CappedMemory {
+    fn close(self) -> Capped<N::Memory> {
+        Capped {
             below: self.below.close(),
-            limit,
+            limit: self.limit,
         }
     }
 }

@@ -3,11 +3,12 @@
 
 pub mod capped;
 pub mod changing;
+pub mod checks;
 pub mod network;
 pub mod opening;
 pub mod places;
 
-pub use capped::{Capped, CappedMemory};
+pub use capped::Capped;
 pub use changing::Changing;
 pub use network::Network;
 pub use opening::Opening;

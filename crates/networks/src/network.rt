@@ -38,9 +38,10 @@ pub trait Network {
         ensures copied { places.new ≡ onto (neighbours (meaning self.now) u) places.old }
     {
         let d = self.degree(u);
-        for i in 0..d.min(places.len()) {
+        let n = d.min(places.len());
+        for (i, place) in places[..n].iter_mut().enumerate() {
             if let Some(v) = self.neighbour(u, i) {
-                places[i] = v as u32;
+                *place = v as u32;
             }
         }
         d

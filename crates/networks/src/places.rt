@@ -7,17 +7,15 @@ ghost use Rattle.std.specs.List.{slice_get};
 pub fn item<T: Copy>(places: &[T], n: usize, u: usize) -> Option<T>
     ensures { result ≡ slice_get (take n places.now) u }
 {
-    if u < n && u < places.len() {
-        return Some(places[u]);
-    }
-    None
+    places[..n.min(places.len())].get(u).copied()
 }
 
 // The first n hold x, as far as there are places; those behind stay.
 pub fn fill_front<T: Copy>(places: &mut [T], n: usize, x: T)
     ensures { places.new ≡ filled n x places.old }
 {
-    for i in 0..n.min(places.len()) {
-        places[i] = x;
+    let n = n.min(places.len());
+    for place in &mut places[..n] {
+        *place = x;
     }
 }

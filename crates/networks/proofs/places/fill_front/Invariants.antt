@@ -1,6 +1,5 @@
-use Rattle.std.proofs.Common.{◌≡◌}
-use Rattle.networks.specs.Places.{filled}
+use Rattle.std.proofs.Common.{◌≡◌, take, replicate}
 use Rattle.networks.proofs.places.fill_front.Given as goal
 
-abbrev pub invariant-loop-i : goal.invariant-loop-i
-invariant-loop-i g l = l.places ≡ filled l.i l.x l.initial.places
+abbrev pub invariant-loop-place : goal.invariant-loop-place
+invariant-loop-place g l = take l.place-index l.place-items ≡ replicate l.place-index l.x
