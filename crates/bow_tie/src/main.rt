@@ -55,7 +55,7 @@ fn show_cores(rt: &impl Print, net: &impl Network<Grade = Points>) -> anyhow::Re
 fn tell(rt: &impl Print, call: &impl Display, answer: Result<(), CallFault>) -> anyhow::Result<()> {
     match answer {
         Ok(()) => println!(rt; "{call}: done")?,
-        Err(fault) => println!(rt; "{call}: refused with {}", faults::number(fault))?,
+        Err(fault) => println!(rt; "{call}: refused with {}", u8::from(fault))?,
     }
     Ok(())
 }

@@ -1,5 +1,6 @@
 // One list of changes and questions, run over every kind of network and of grade.
-use faults::code;
+use faults::CallFault::{AlreadyLinked, AtCeiling, NoSuchPerson, NotLinked, SamePerson};
+use faults::{CallFault, code};
 use grades::{Grade, Laurels, Points};
 use matrix::{BitMatrix, MatrixMemory};
 use networks::{Capped, Changing, Network, Opening};
@@ -8,79 +9,112 @@ use std::alloc::Global;
 use std::process::Abort;
 use std::test::Fail;
 
-// What the answers to the list come to: the numbers of the changes, then what the network tells.
+// What the answers to the list come to: those to the changes, then what the network tells.
 #[derive(Clone, Copy, PartialEq, Eq, Debug)]
 struct Outcome {
-    changes: [u8; 12],
+    changes: [Result<(), CallFault>; 12],
     degrees: [usize; 5],
     near: [u32; 4],
     third: Option<usize>,
-    nobody: (usize, bool, bool),
+    nobody: Nobody,
+}
+
+// What is told of a person who is not there.
+#[derive(Clone, Copy, PartialEq, Eq, Debug)]
+struct Nobody {
+    degree: usize,
+    linked: bool,
+    graded: bool,
 }
 
 // Five persons, of whom each takes at least three links.
 const FIVE: Outcome = Outcome {
-    changes: [0, 10, 9, 8, 0, 0, 0, 11, 0, 11, 0, 8],
+    changes: [
+        Ok(()),
+        Err(AlreadyLinked),
+        Err(SamePerson),
+        Err(NoSuchPerson),
+        Ok(()),
+        Ok(()),
+        Ok(()),
+        Err(NotLinked),
+        Ok(()),
+        Err(NotLinked),
+        Ok(()),
+        Err(NoSuchPerson),
+    ],
     degrees: [2, 0, 1, 1, 2],
     near: [2, 4, 9, 9],
     third: None,
-    nobody: (0, false, false),
+    nobody: Nobody {
+        degree: 0,
+        linked: false,
+        graded: false,
+    },
 };
 
 // The same list under a ceiling of one link.
 const UNDER_ONE: Outcome = Outcome {
-    changes: [0, 10, 9, 8, 0, 12, 12, 11, 0, 11, 0, 8],
+    changes: [
+        Ok(()),
+        Err(AlreadyLinked),
+        Err(SamePerson),
+        Err(NoSuchPerson),
+        Ok(()),
+        Err(AtCeiling),
+        Err(AtCeiling),
+        Err(NotLinked),
+        Ok(()),
+        Err(NotLinked),
+        Ok(()),
+        Err(NoSuchPerson),
+    ],
     degrees: [0, 0, 0, 1, 1],
     near: [9, 9, 9, 9],
-    third: None,
-    nobody: (0, false, false),
+    ..FIVE
 };
 
-fn change<N: Changing>(net: &mut N, grade: N::Grade) -> [u8; 12] {
-    let a = code(net.link(0, 1));
-    let b = code(net.link(1, 0));
-    let c = code(net.link(3, 3));
-    let d = code(net.link(0, 5));
-    let e = code(net.link(4, 3));
-    let f = code(net.link(4, 0));
-    let g = code(net.link(0, 2));
-    let h = code(net.unlink(1, 3));
-    let i = code(net.unlink(1, 0));
-    let j = code(net.unlink(0, 1));
-    let k = code(net.regrade(4, grade));
-    let l = code(net.regrade(5, grade));
-    [a, b, c, d, e, f, g, h, i, j, k, l]
+fn change<N: Changing>(net: &mut N, grade: N::Grade) -> [Result<(), CallFault>; 12] {
+    [
+        net.link(0, 1),
+        net.link(1, 0),
+        net.link(3, 3),
+        net.link(0, 5),
+        net.link(4, 3),
+        net.link(4, 0),
+        net.link(0, 2),
+        net.unlink(1, 3),
+        net.unlink(1, 0),
+        net.unlink(0, 1),
+        net.regrade(4, grade),
+        net.regrade(5, grade),
+    ]
 }
 
 fn try_out<N: Changing>(net: &mut N, grade: N::Grade) -> Outcome {
     let changes = change(net, grade);
-    let degrees = [
-        net.degree(0),
-        net.degree(1),
-        net.degree(2),
-        net.degree(3),
-        net.degree(4),
-    ];
     let mut near = [9; 4];
     let _ = net.copy_neighbours(0, &mut near);
-    let third = net.neighbour(0, 2);
-    let nobody = (net.degree(5), net.linked(0, 5), net.grade(5).is_some());
     Outcome {
         changes,
-        degrees,
+        degrees: [0, 1, 2, 3, 4].map(|u| net.degree(u)),
         near,
-        third,
-        nobody,
+        third: net.neighbour(0, 2),
+        nobody: Nobody {
+            degree: net.degree(5),
+            linked: net.linked(0, 5),
+            graded: net.grade(5).is_some(),
+        },
     }
 }
 
-fn matrix_of<G: Grade + Clone + Drop>(rt: HostRuntime, zero: G) -> Result<BitMatrix<G>, Fail> {
-    let bits = vec![in rt.alloc(); 255u8; 7]?;
-    let grades = vec![in rt.alloc(); zero; 6]?;
+fn matrix_of<G: Grade>(alloc: Global, zero: G) -> Result<BitMatrix<G>, Fail> {
+    let bits = vec![in alloc; 255u8; 7]?;
+    let grades = vec![in alloc; zero; 6]?;
     Ok(BitMatrix::open(5, MatrixMemory { bits, grades }))
 }
 
-fn rows_of<G: Grade + Clone + Drop>(
+fn rows_of<G: Grade>(
     rt: &impl Abort,
     alloc: Global,
     span: usize,
@@ -95,7 +129,7 @@ fn rows_of<G: Grade + Clone + Drop>(
         cells,
         grades,
     };
-    assert_eq!(rt; code(AdjacencyRows::check(5, &memory)), 0);
+    assert_eq!(rt; AdjacencyRows::check(5, &memory), Ok(()));
     Ok(AdjacencyRows::open(5, memory))
 }
 
@@ -104,12 +138,24 @@ const LOW: Laurels = Laurels { class: 0, score: 0 };
 const HIGH: Laurels = Laurels { class: 1, score: 7 };
 
 #[test]
+fn answers_have_codes(rt: HostRuntime) {
+    assert_eq!(rt;
+        FIVE.changes.map(code),
+        [0, 10, 9, 8, 0, 0, 0, 11, 0, 11, 0, 8]
+    );
+    assert_eq!(rt;
+        UNDER_ONE.changes.map(code),
+        [0, 10, 9, 8, 0, 12, 12, 11, 0, 11, 0, 8]
+    );
+}
+
+#[test]
 fn matrix_of_each_grade(rt: HostRuntime) -> Result<(), Fail> {
     assert_eq!(rt;
-        try_out(&mut matrix_of(rt.clone()?, Points(0))?, Points(-1)),
+        try_out(&mut matrix_of(rt.alloc(), Points(0))?, Points(-1)),
         FIVE
     );
-    assert_eq!(rt; try_out(&mut matrix_of(rt, LOW)?, HIGH), FIVE);
+    assert_eq!(rt; try_out(&mut matrix_of(rt.alloc(), LOW)?, HIGH), FIVE);
     Ok(())
 }
 
@@ -144,7 +190,7 @@ fn capped_rows_of_each_grade(rt: HostRuntime) -> Result<(), Fail> {
 #[test]
 fn capped_twice_over_matrix_of_each_grade(rt: HostRuntime) -> Result<(), Fail> {
     let below = Capped {
-        below: matrix_of(rt.clone()?, Points(0))?,
+        below: matrix_of(rt.alloc(), Points(0))?,
         limit: 1,
     };
     assert_eq!(rt;
@@ -152,7 +198,7 @@ fn capped_twice_over_matrix_of_each_grade(rt: HostRuntime) -> Result<(), Fail> {
         UNDER_ONE
     );
     let below = Capped {
-        below: matrix_of(rt, LOW)?,
+        below: matrix_of(rt.alloc(), LOW)?,
         limit: 9,
     };
     assert_eq!(rt; try_out(&mut Capped { below, limit: 1 }, HIGH), UNDER_ONE);
