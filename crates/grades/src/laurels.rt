@@ -6,6 +6,7 @@ ghost use Rattle.std.proofs.Common.{rules};
 use crate::grade::Grade;
 use crate::places::write_front;
 use crate::wire::Wire;
+use heap::Ordered;
 
 #[derive(Clone, Copy, PartialEq, Eq, PartialOrd, Ord, Debug)]
 pub struct Laurels {
@@ -13,12 +14,8 @@ pub struct Laurels {
     pub score: u32,
 }
 
-impl Grade for Laurels {
+impl Ordered for Laurels {
     ghost at_most = { λ a b. nat_lt a.class b.class || (a.class == b.class && nat_le a.score b.score) };
-
-    ghost WIDTH = { 5 };
-
-    const WIDTH: usize = 5;
 
     ghost total = { Prim.search rules };
 
@@ -27,6 +24,12 @@ impl Grade for Laurels {
     fn at_most(&self, other: &Laurels) -> bool {
         self <= other
     }
+}
+
+impl Grade for Laurels {
+    ghost WIDTH = { 5 };
+
+    const WIDTH: usize = 5;
 }
 
 impl Wire for Laurels {

@@ -7,16 +7,13 @@ ghost use Rattle.std.proofs.Common.{rules};
 use crate::grade::Grade;
 use crate::places::write_front;
 use crate::wire::Wire;
+use heap::Ordered;
 
 #[derive(Clone, Copy, PartialEq, Eq, PartialOrd, Ord, Debug)]
 pub struct Points(pub i32);
 
-impl Grade for Points {
+impl Ordered for Points {
     ghost at_most = { λ a b. int_le a.0 b.0 };
-
-    ghost WIDTH = { 4 };
-
-    const WIDTH: usize = 4;
 
     ghost total = { Prim.search rules };
 
@@ -25,6 +22,12 @@ impl Grade for Points {
     fn at_most(&self, other: &Points) -> bool {
         self <= other
     }
+}
+
+impl Grade for Points {
+    ghost WIDTH = { 4 };
+
+    const WIDTH: usize = 4;
 }
 
 impl Wire for Points {

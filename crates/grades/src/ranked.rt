@@ -13,7 +13,7 @@ pub struct Ranked<G> {
 }
 
 impl<G: Grade> Ordered for Ranked<G> {
-    ghost at_most = { λ x y. rank_at_most G.Grade.at_most x.grade x.person y.grade y.person };
+    ghost at_most = { λ x y. rank_at_most G.at_most x.grade x.person y.grade y.person };
 
     ghost total = { Prim.search rules };
 
@@ -27,7 +27,7 @@ impl<G: Grade> Ordered for Ranked<G> {
 
 // Whether each is at most the other: so only for one person.
 pub fn tied<G: Grade>(x: &Ranked<G>, y: &Ranked<G>) -> bool
-    ensures value { result ≡ (rank_at_most G.Grade.at_most x.now.grade x.now.person y.now.grade y.now.person && rank_at_most G.Grade.at_most y.now.grade y.now.person x.now.grade x.now.person) }
+    ensures value { result ≡ (rank_at_most G.at_most x.now.grade x.now.person y.now.grade y.now.person && rank_at_most G.at_most y.now.grade y.now.person x.now.grade x.now.person) }
     ensures apart { result ≡ true → x.now.person ≡ y.now.person }
 {
     x.at_most(y) && y.at_most(x)

@@ -6,5 +6,5 @@ returns g c =
     let net = g.N.Network.meaning c.args.net.now in
     record {
       graph = lawful net (g.N.Network.sound c.args.net.now);
-      order = persons_order g.N.Grade.Grade.at_most g.met.N.Grade.Grade.total g.met.N.Grade.Grade.transitive net;
+      order = persons_order g.N.Grade.Ordered.at_most g.met.N.Grade.Ordered.total g.met.N.Grade.Ordered.transitive net;
     }
