@@ -1,6 +1,5 @@
-use Rattle.std.proofs.Common.{refl}
 use Rattle.heap.proofs.Standing.{holds_none}
 use Rattle.heap.proofs.calls.empty.Goals as goal
 
-pub returns : goal.returns
-returns g c = record { count = refl; stands = holds_none g.T.Ordered.at_most c.args.places.now }
+pub returns-clause-stands : goal.returns-clause-stands
+returns-clause-stands g c = holds_none g.T.Ordered.at_most c.args.places.now
