@@ -21,14 +21,6 @@ fn laurels(class: u8, score: u32, person: u32) -> Ranked<Laurels> {
     }
 }
 
-// The person, or 99 for none.
-fn person<G: Copy>(x: Option<Ranked<G>>) -> u32 {
-    match x {
-        Some(x) => x.person,
-        None => 99,
-    }
-}
-
 #[test]
 fn level_points_come_by_number(rt: HostRuntime) -> Result<(), Fail> {
     let mut places = [points(0, 0); 3];
@@ -36,18 +28,15 @@ fn level_points_come_by_number(rt: HostRuntime) -> Result<(), Fail> {
     let n = put(&mut places, n, points(7, 2))?;
     let n = put(&mut places, n, points(-3, 9))?;
     assert_eq!(rt; n, 3);
-    assert_eq!(rt;
-        put(&mut places, 3, points(-8, 1)).err(),
-        Some(CallFault::NoRoom)
-    );
-    assert_eq!(rt; person(least(&places, 3)), 9);
-    assert_eq!(rt; person(take(&mut places, 3)), 9);
-    assert_eq!(rt; put(&mut places, 2, points(-8, 1)).ok(), Some(3));
-    assert_eq!(rt; person(take(&mut places, 3)), 1);
-    assert_eq!(rt; person(take(&mut places, 2)), 2);
-    assert_eq!(rt; person(take(&mut places, 1)), 5);
-    assert_eq!(rt; person(take(&mut places, 0)), 99);
-    assert_eq!(rt; person(least(&places, 0)), 99);
+    assert_eq!(rt; put(&mut places, 3, points(-8, 1)), Err(CallFault::NoRoom));
+    assert_eq!(rt; least(&places, 3), Some(points(-3, 9)));
+    assert_eq!(rt; take(&mut places, 3), Some(points(-3, 9)));
+    assert_eq!(rt; put(&mut places, 2, points(-8, 1)), Ok(3));
+    assert_eq!(rt; take(&mut places, 3), Some(points(-8, 1)));
+    assert_eq!(rt; take(&mut places, 2), Some(points(7, 2)));
+    assert_eq!(rt; take(&mut places, 1), Some(points(7, 5)));
+    assert_eq!(rt; take(&mut places, 0), None);
+    assert_eq!(rt; least(&places, 0), None);
     Ok(())
 }
 
@@ -60,10 +49,7 @@ fn laurels_come_by_class_then_score_then_number(rt: HostRuntime) {
         laurels(1, 8, 4),
     ];
     sort(&mut places);
-    assert_eq!(rt; places[0].person, 4);
-    assert_eq!(rt; places[1].person, 2);
-    assert_eq!(rt; places[2].person, 3);
-    assert_eq!(rt; places[3].person, 0);
+    assert_eq!(rt; places.map(|x| x.person), [4, 2, 3, 0]);
 }
 
 // By the hour alone: two of one hour are level.
@@ -94,10 +80,7 @@ fn level_tickets_all_come(rt: HostRuntime) {
         Ticket { hour: 3, number: 8 },
     ];
     sort(&mut places);
-    assert_eq!(rt; places[0].hour, 3);
-    assert_eq!(rt; places[1].hour, 3);
-    assert_eq!(rt; places[2].hour, 5);
-    assert_eq!(rt; places[3].hour, 5);
+    assert_eq!(rt; places.map(|x| x.hour), [3, 3, 5, 5]);
     assert_eq!(rt; places[0].number | places[1].number, 10);
     assert_eq!(rt; places[2].number | places[3].number, 5);
 }
@@ -105,9 +88,6 @@ fn level_tickets_all_come(rt: HostRuntime) {
 #[test]
 fn no_place_holds_nothing(rt: HostRuntime) {
     let mut places = [points(4, 4); 0];
-    assert_eq!(rt;
-        put(&mut places, 0, points(1, 1)).err(),
-        Some(CallFault::NoRoom)
-    );
-    assert_eq!(rt; person(take(&mut places, 7)), 99);
+    assert_eq!(rt; put(&mut places, 0, points(1, 1)), Err(CallFault::NoRoom));
+    assert_eq!(rt; take(&mut places, 7), None);
 }
