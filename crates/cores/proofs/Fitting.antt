@@ -1,7 +1,6 @@
--- Lanes that fit, lanes filled in order, and lanes in which everyone stands. Assumes nothing.
-use Rattle.std.proofs.Common.{◌≡◌, ℕ, ◌+◌, ◌<◌, ◌≤◌, true, false, ◌&&◌, eqb, ltb, leb, ◌⊎◌, List, length, get_or, set, sym, ap, ◌∙◌, inl, inr, arith}
-use Rattle.std.proofs.lemmas.List.{get_or-set_same, get_or-set_other}
-use Rattle.std.proofs.lemmas.Bool.{cases_eq, both_ways, and_from, and_parts, lt-ltb, ltb-true, le-leb, leb-true, eq-eqb, eqb-true}
+-- Lanes that fit, and lanes in which everyone stands. Assumes nothing.
+use Rattle.std.proofs.Common.{◌≡◌, ℕ, ◌+◌, ◌<◌, ◌≤◌, true, false, ◌&&◌, List, length, get_or, sym, ap, ◌∙◌, arith}
+use Rattle.std.proofs.lemmas.Bool.{both_ways, and_from, and_parts}
 use Rattle.networks.specs.Net.{Net, degree_of}
 use Rattle.meaning.specs.Persons.{graph_of}
 use Rattle.theory.specs.Cores.{core, everyone}
@@ -11,30 +10,16 @@ use Rattle.theory.proofs.Cores.{everyone_in, everyone_within}
 use Rattle.theory.proofs.Counting.{count_same, count_zero}
 use Rattle.theory.proofs.Members.{members_length}
 use Rattle.theory.proofs.Sets.{same_set, same_test, without_in, without_from}
-use Rattle.cores.specs.Lanes.{Lanes, fitting, alive, Counted, Ready, Fallen}
+use Rattle.cores.specs.Lanes.{Lanes, fitting, Fits, alive, Counted, Ready, Fallen}
 use Rattle.cores.proofs.Alive.{alive_read, alive_within}
 use Rattle.cores.proofs.Queue.{queue_starts}
 use Rattle.cores.proofs.Steps.{falling_ends}
 
-pub fits_when : (n mark : ℕ) (l : Lanes) (near : List ℕ) → 0 < mark → l.tail ≤ n → length l.fell ≡ n → length l.degrees ≡ n → length l.order ≡ n → length near ≡ n → fitting n mark l near ≡ true
-fits_when n mark l near p t a b c d =
-    and_from _ _ (and_from _ _ (lt-ltb 0 mark p) (le-leb l.tail n t)) (and_from _ _ (and_from _ _ (eq-eqb (length l.fell) n a) (eq-eqb (length l.degrees) n b)) (and_from _ _ (eq-eqb (length l.order) n c) (eq-eqb (length near) n d)))
+pub fits_when : (n mark : ℕ) (l : Lanes) (near : List ℕ) → Fits n mark l near → fitting n mark l near ≡ true
+fits_when n mark l near f = grind (arith, f.marks, f.ends, f.fell, f.degrees, f.order, f.room)
 
-pub fits_gives : (n mark : ℕ) (l : Lanes) (near : List ℕ) → fitting n mark l near ≡ true → (0 < mark) × (l.tail ≤ n) × (length l.fell ≡ n) × (length l.degrees ≡ n) × (length l.order ≡ n) × (length near ≡ n)
-fits_gives n mark l near e =
-    let (p, q) = and_parts (ltb 0 mark && leb l.tail n) _ e in
-    let (m, t) = and_parts (ltb 0 mark) _ p in
-    let (x, y) = and_parts (eqb (length l.fell) n && eqb (length l.degrees) n) _ q in
-    let (a, b) = and_parts (eqb (length l.fell) n) _ x in
-    let (c, d) = and_parts (eqb (length l.order) n) _ y in
-    (ltb-true 0 mark m, leb-true l.tail n t, eqb-true (length l.fell) n a, eqb-true (length l.degrees) n b, eqb-true (length l.order) n c, eqb-true (length near) n d)
-
-pub filled : (f : ℕ → ℕ) (xs : List ℕ) (u r : ℕ) → u < length xs → ((v : ℕ) → v < u → get_or xs v 0 ≡ f v) → r ≡ f u → (v : ℕ) → v < u + 1 → get_or (set xs u r) v 0 ≡ f v
-filled f xs u r l h e v i = go (cases_eq v u)
-  where
-    go : (v ≡ u) ⊎ (v ≡ u → ⊥) → get_or (set xs u r) v 0 ≡ f v
-    go (inl s) = ap (λ y. get_or (set xs u r) y 0) s ∙ get_or-set_same xs u r 0 l ∙ e ∙ ap f (sym s)
-    go (inr d) = get_or-set_other xs u v r 0 d ∙ h v (omega arith)
+pub fits_gives : (n mark : ℕ) (l : Lanes) (near : List ℕ) → fitting n mark l near ≡ true → Fits n mark l near
+fits_gives n mark l near e = record { marks = grind (arith, e); ends = grind (arith, e); fell = grind (arith, e); degrees = grind (arith, e); order = grind (arith, e); room = grind (arith, e) }
 
 all_stand : (g : Graph) (fell : List ℕ) → length fell ≡ g.size → ((v : ℕ) → v < g.size → get_or fell v 0 ≡ 0) → alive fell ≡ everyone g
 all_stand g fell l h =

@@ -1,9 +1,8 @@
 -- One step of a fall on the way to the core. Assumes nothing.
-use Rattle.std.proofs.Common.{◌≡◌, ℕ, ◌+◌, ◌-◌, ◌<◌, ◌≤◌, Bool, true, false, not, ◌&&◌, eqb, ◌⊎◌, List, [], ◌∷◌, length, get_or, take, drop, set, count_by, sym, refl, ap, ◌∙◌, subst, inl, inr, arith}
-use Rattle.std.proofs.lemmas.List.{get_or-set_same, get_or-set_other, drop_more, drop_all}
+use Rattle.std.proofs.Common.{◌≡◌, ℕ, ◌+◌, ◌-◌, ◌<◌, ◌≤◌, Bool, true, false, not, ◌&&◌, eqb, ◌⊎◌, List, [], ◌∷◌, length, get_or, take, drop, set, count_by, sym, ap, ◌∙◌, inl, inr, arith}
+use Rattle.std.proofs.lemmas.List.{get_or-set_same, get_or-set_other}
 use Rattle.std.proofs.lemmas.Bool.{cases_eq}
-use Rattle.grades.specs.Places.{onto}
-use Rattle.networks.specs.Net.{Net, Sound, neighbours, degree_of}
+use Rattle.networks.specs.Net.{Net, Sound, neighbours}
 use Rattle.meaning.specs.Persons.{graph_of}
 use Rattle.theory.specs.Cores.{core}
 use Rattle.theory.specs.Graphs.{Graph, degree}
@@ -11,14 +10,10 @@ use Rattle.theory.specs.Sets.{Set, ◌∈◌, bit, without, minus}
 use Rattle.theory.proofs.Loops.{cascade_keeps_core}
 use Rattle.theory.proofs.Sets.{without_from}
 use Rattle.cores.specs.Falling.{Queued, Falling, pushed, lowered}
-use Rattle.cores.specs.Lanes.{Lanes, lanes, alive, Counted, Ready, Fallen}
+use Rattle.cores.specs.Lanes.{Lanes, alive, Counted, Ready, Fallen}
 use Rattle.cores.proofs.Alive.{alive_set, alive_within}
-use Rattle.cores.proofs.Near.{near_at, front_splits}
+use Rattle.cores.proofs.Near.{front_splits}
 use Rattle.cores.proofs.Queue.{queue_push, queue_skip, queue_lower, queue_degree, queue_starts, queue_pop}
-
-pub moved : {g : Graph} {k m mark : ℕ} {X : Set} {old : Lanes} {fell fell' degrees degrees' order order' : List ℕ} {tail tail' head : ℕ} {rest : List ℕ} →
-    fell' ≡ fell → degrees' ≡ degrees → order' ≡ order → tail' ≡ tail → Falling g k m mark X old (lanes fell degrees order tail) head rest → Falling g k m mark X old (lanes fell' degrees' order' tail') head rest
-moved a b c d f = rw (a, b, c, d) f
 
 -- x has too few and falls
 too_few : (g : Graph) (k mark : ℕ) (X : Set) (l : Lanes) (x : ℕ) → 0 < mark → x ∈ alive l.fell → degree g (alive l.fell) x < k → core g k (alive l.fell) ≡ core g k X → core g k (alive (set l.fell x mark)) ≡ core g k X
@@ -50,19 +45,6 @@ module _ (g : Graph) (k mark : ℕ) (X : Set) (old l : Lanes) (head x : ℕ) (re
         enough = λ v b m. let (n, d) = still l.fell x mark v p a m in omega (arith, get_or-set_other l.degrees x v (get_or l.degrees x 0 - 1) 0 d, f.enough v b n);
         queue = queue_push g mark old (lowered x l) head x rest p lf lo a q;
       }
-
--- the neighbour that was copied to place i is the next that degrees wait for
-pub at_near : {G : Type 0} (net : Net G) (k mark : ℕ) (X : Set) (old l : Lanes) (head u i : ℕ) (out near : List ℕ) → length near ≡ net.persons → out ≡ onto (neighbours net u) near → i < degree_of net u →
-    Falling (graph_of net) k net.persons mark X old l head (drop i (neighbours net u)) → Falling (graph_of net) k net.persons mark X old l head (get_or out i 0 ∷ drop (i + 1) (neighbours net u))
-at_near net k mark X old l head u i out near n e h f =
-    subst (λ r. Falling (graph_of net) k net.persons mark X old l head r) (drop_more (neighbours net u) i 0 h ∙ ap (λ y. y ∷ drop (i + 1) (neighbours net u)) (sym (near_at net u i out near n e h).0)) f
-
-pub at_end : (g : Graph) (k mark : ℕ) (X : Set) (old l : Lanes) (head i : ℕ) (A : List ℕ) → length A ≤ i → Falling g k g.size mark X old l head (drop i A) → Falling g k g.size mark X old l head []
-at_end g k mark X old l head i A n f = subst (λ r. Falling g k g.size mark X old l head r) (drop_all i A n) f
-
--- from degrees that are right
-pub falling_starts : (g : Graph) (k mark : ℕ) (l : Lanes) → Ready g l → Falling g k 0 mark (alive l.fell) l l l.tail []
-falling_starts g k mark l r = record { same = refl; enough = λ v b m. absurd (omega arith); queue = queue_starts g mark l r }
 
 -- u is looked at and stays
 pub passes : (g : Graph) (k u mark : ℕ) (X : Set) (old l : Lanes) (head : ℕ) → (u ∈ alive l.fell → k ≤ get_or l.degrees u 0) → Falling g k u mark X old l head [] → Falling g k (u + 1) mark X old l head []

@@ -1,10 +1,13 @@
 -- What holds while persons fall. Assumes nothing.
 --     pushed mark x l             the lanes after the fall of x
 --     lowered x l                 the lanes with one neighbour less for x
+--     let_fall mark x l           x falls, and stands last in the order if there is a place
+--     eased k mark x l            x, if they stand, has one neighbour less, and falls with fewer than k
+--     settled k mark xs l         all of xs, one after another
 --     Owed g l head rest          the degrees that the lane holds, and those that are right
 --     Queued g mark old new head rest   the lanes old and new while those in the order from head on wait
 --     Falling g k m mark X old new head rest   the same on the way to the core of X, where who stands below m has degree k at least
-use Rattle.std.specs.Prelude.{◌≡◌, ℕ, ◌+◌, ◌-◌, ◌<◌, ◌≤◌, List, take, count_by, nat_eq, slice_index, slice_set}
+use Rattle.std.specs.Prelude.{◌≡◌, ℕ, ◌+◌, ◌-◌, ◌<◌, ◌≤◌, cond, List, [], ◌∷◌, length, take, count_by, nat_eq, nat_lt, slice_index, slice_set}
 use Rattle.theory.specs.Cores.{core}
 use Rattle.theory.specs.Graphs.{Graph, degree}
 use Rattle.theory.specs.Sets.{Set, ◌∈◌, bit, count}
@@ -15,6 +18,16 @@ pushed mark x l = lanes (slice_set l.fell x mark) l.degrees (slice_set l.order l
 
 abbrev pub lowered : ℕ → Lanes → Lanes
 lowered x l = lanes l.fell (slice_set l.degrees x (slice_index l.degrees x - 1)) l.order l.tail
+
+abbrev pub let_fall : ℕ → ℕ → Lanes → Lanes
+let_fall mark x l = lanes (slice_set l.fell x mark) l.degrees (slice_set l.order l.tail x) (cond (nat_lt l.tail (length l.order)) (l.tail + 1) l.tail)
+
+abbrev pub eased : ℕ → ℕ → ℕ → Lanes → Lanes
+eased k mark x l = cond (alive l.fell x) (cond (nat_lt (slice_index l.degrees x - 1) k) (let_fall mark x (lowered x l)) (lowered x l)) l
+
+abbrev pub settled : ℕ → ℕ → List ℕ → Lanes → Lanes
+settled k mark [] l = l
+settled k mark (x ∷ xs) l = settled k mark xs (eased k mark x l)
 
 -- the degree lane holds for v its degree, and what is still to be taken off
 abbrev pub Owed : Graph → Lanes → ℕ → List ℕ → Type 0

@@ -2,12 +2,13 @@
 --     Lanes                       who fell and with which mark, degrees, the persons in the order in which they fell, and how many these are
 --     lanes fell degrees order tail   lanes from their parts
 --     fitting n mark l near       the lanes, and one for neighbours, have a place for each of n persons, and the mark is not 0
+--     Fits n mark l near          the same, fact by fact
 --     alive fell                  who stands: the lane holds 0 for them, and for the others the mark with which they fell
 --     Counted g fell degrees      the degrees of those who stand are right
 --     Ready g l                   the degrees are right, and the order has a place for each who stands
 --     Marked mark old new         who fell meanwhile has the mark, for all others the lane is the same
 --     Fallen g k mark old new     what a cascade leaves: degrees right and k at least, marks, and who fell, each once, at the end of the order
-use Rattle.std.specs.Prelude.{◌≡◌, ℕ, ◌+◌, ◌≤◌, Bool, ◌&&◌, ◌⊎◌, List, length, take, drop, count_by, ◌==◌, nat_eq, nat_le, nat_lt, slice_index, slice_index_or}
+use Rattle.std.specs.Prelude.{◌≡◌, ℕ, ◌+◌, ◌<◌, ◌≤◌, Bool, ◌&&◌, ◌⊎◌, List, length, take, drop, count_by, ◌==◌, nat_eq, nat_le, nat_lt, slice_index, slice_index_or}
 use Rattle.theory.specs.Graphs.{Graph, degree}
 use Rattle.theory.specs.Sets.{Set, ◌∈◌, bit, count, minus}
 
@@ -23,6 +24,14 @@ lanes fell degrees order tail = record { fell = fell; degrees = degrees; order =
 abbrev pub fitting : ℕ → ℕ → Lanes → List ℕ → Bool
 fitting n mark l near =
     (nat_lt 0 mark && nat_le l.tail n) && ((length l.fell == n && length l.degrees == n) && (length l.order == n && length near == n))
+
+pub record Fits (n mark : ℕ) (l : Lanes) (near : List ℕ) : Type 0 where
+  pub marks : 0 < mark
+  pub ends : l.tail ≤ n
+  pub fell : length l.fell ≡ n
+  pub degrees : length l.degrees ≡ n
+  pub order : length l.order ≡ n
+  pub room : length near ≡ n
 
 -- nobody beyond the lane stands
 unfoldable pub alive : List ℕ → Set

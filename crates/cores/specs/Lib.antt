@@ -1,3 +1,4 @@
 pub mod Lanes
+pub mod Lent
 pub mod Falling
 pub mod Answer

@@ -1,114 +1,91 @@
 // Persons fall: one, those with too few neighbours, and all who cannot stand without them.
-ghost use Rattle.std.specs.Prelude.{◌≡◌, ℕ, ◌+◌, ◌<◌, ◌≤◌, [], length, if◌then◌else◌, nat_lt, slice_set};
+ghost use Rattle.std.specs.Prelude.{◌≡◌, ℕ, ◌<◌, [], length};
 ghost use Rattle.networks.specs.Net.{neighbours};
 ghost use Rattle.meaning.specs.Persons.{graph_of};
 ghost use Rattle.theory.specs.Cores.{core};
-ghost use Rattle.theory.specs.Sets.{Set, count};
-ghost use Rattle.cores.specs.Falling.{Falling};
-ghost use Rattle.cores.specs.Lanes.{Lanes, lanes, alive, Ready, Fallen};
+ghost use Rattle.theory.specs.Sets.{Set};
+ghost use Rattle.cores.specs.Falling.{Falling, let_fall, eased, settled};
+ghost use Rattle.cores.specs.Lanes.{Lanes, alive, Fits, Ready, Fallen};
+ghost use Rattle.cores.specs.Lent.{lanes_of, SameLanes};
 
+use crate::lanes::Cascade;
 use networks::Network;
 
-// x falls and stands last in the order, if there is a place.
-pub(crate) fn let_fall(x: u32, mark: u32, tail: usize, fell: &mut [u32], order: &mut [u32]) -> usize
-    requires { x < length fell.old }
-    ensures tail { result ≡ (if nat_lt tail (length order.old) then tail + 1 else tail) }
-    ensures fell { fell.new ≡ slice_set fell.old x mark }
-    ensures order { order.new ≡ slice_set order.old tail x }
-{
-    fell[x as usize] = mark;
-    if tail < order.len() {
-        order[tail] = x;
-        return tail + 1;
+impl<'a> Cascade<'a> {
+    // x falls and stands last in the order, if there is a place.
+    pub(crate) fn let_fall(&mut self, x: u32, mark: u32)
+        requires { x < length self.old.fell.now }
+        ensures same { SameLanes self.old self.new }
+        ensures fell { lanes_of self.new ≡ let_fall mark x (lanes_of self.old) }
+        ensures near { self.new.near.now ≡ self.old.near.now }
+    {
+        self.fell[x as usize] = mark;
+        if self.tail < self.order.len() {
+            self.order[self.tail] = x;
+            self.tail += 1;
+        }
     }
-    tail
-}
 
-// Lowers the degrees of the neighbours of u, who has fallen; whoever has fewer than k left falls too.
-pub(crate) fn settle<N: Network>(
-    net: &N,
-    u: usize,
-    k: u32,
-    mark: u32,
-    tail: usize,
-    fell: &mut [u32],
-    degree: &mut [u32],
-    order: &mut [u32],
-    near: &mut [u32],
-) -> usize
-    requires lanes { (length fell.old ≡ (N.Network.meaning net.now).persons) × (length degree.old ≡ (N.Network.meaning net.now).persons) × (length order.old ≡ (N.Network.meaning net.now).persons) × (length near.old ≡ (N.Network.meaning net.now).persons) }
-    requires mark { 0 < mark }
-    requires tail { tail ≤ (N.Network.meaning net.now).persons }
-    ensures later { (tail ≤ result) × (result ≤ (N.Network.meaning net.now).persons) }
-    ensures fewer { result + count (alive fell.new) (N.Network.meaning net.now).persons ≤ tail + count (alive fell.old) (N.Network.meaning net.now).persons }
-    ensures falling { (X : Set) (old : Lanes) (head : ℕ) → Falling (graph_of (N.Network.meaning net.now)) k (N.Network.meaning net.now).persons mark X old (lanes fell.old degree.old order.old tail) head (neighbours (N.Network.meaning net.now) u) → Falling (graph_of (N.Network.meaning net.now)) k (N.Network.meaning net.now).persons mark X old (lanes fell.new degree.new order.new result) head [] }
-{
-    let mut tail = tail;
-    let d = net.copy_neighbours(u, near);
-    for i in 0..d {
-        let x = near[i];
+    // x, if they stand, has one neighbour less, and falls with fewer than k.
+    fn ease(&mut self, x: u32, k: u32, mark: u32)
+        requires fell { x < length self.old.fell.now }
+        requires degree { x < length self.old.degree.now }
+        ensures same { SameLanes self.old self.new }
+        ensures eased { lanes_of self.new ≡ eased k mark x (lanes_of self.old) }
+        ensures near { self.new.near.now ≡ self.old.near.now }
+    {
         let v = x as usize;
-        if fell[v] == 0 {
-            let left = degree[v].saturating_sub(1);
-            degree[v] = left;
+        if self.fell[v] == 0 {
+            let left = self.degree[v].saturating_sub(1);
+            self.degree[v] = left;
             if left < k {
-                tail = let_fall(x, mark, tail, fell, order);
+                self.let_fall(x, mark);
             }
         }
     }
-    tail
-}
 
-// Everyone who stands with a degree below k falls.
-pub(crate) fn drop_weak<N: Network>(
-    net: &N,
-    k: u32,
-    mark: u32,
-    tail: usize,
-    fell: &mut [u32],
-    degree: &[u32],
-    order: &mut [u32],
-) -> usize
-    requires lanes { (length fell.old ≡ (N.Network.meaning net.now).persons) × (length degree.now ≡ (N.Network.meaning net.now).persons) × (length order.old ≡ (N.Network.meaning net.now).persons) }
-    requires mark { 0 < mark }
-    requires tail { tail ≤ (N.Network.meaning net.now).persons }
-    ensures later { result ≤ (N.Network.meaning net.now).persons }
-    ensures falling { Ready (graph_of (N.Network.meaning net.now)) (lanes fell.old degree.now order.old tail) → Falling (graph_of (N.Network.meaning net.now)) k (N.Network.meaning net.now).persons mark (alive fell.old) (lanes fell.old degree.now order.old tail) (lanes fell.new degree.now order.new result) tail [] }
-{
-    let mut end = tail;
-    for u in 0..fell.len() {
-        if fell[u] == 0 {
-            if degree[u] < k {
-                end = let_fall(u as u32, mark, end, fell, order);
+    // Lowers the degrees of the neighbours of u, who has fallen; whoever has fewer than k left falls too.
+    fn settle<N: Network>(&mut self, net: &N, u: usize, k: u32, mark: u32)
+        requires { Fits (N.Network.meaning net.now).persons mark (lanes_of self.old) self.old.near.now }
+        ensures same { SameLanes self.old self.new }
+        ensures fits { Fits (N.Network.meaning net.now).persons mark (lanes_of self.new) self.new.near.now }
+        ensures settled { lanes_of self.new ≡ settled k mark (neighbours (N.Network.meaning net.now) u) (lanes_of self.old) }
+    {
+        let d = net.copy_neighbours(u, self.near);
+        // by index: a loop that lends `near` could not call on all the lanes
+        for i in 0..d {
+            let x = self.near[i];
+            self.ease(x, k, mark);
+        }
+    }
+
+    // Everyone who stands with a degree below k falls.
+    pub(crate) fn drop_weak<N: Network>(&mut self, net: &N, k: u32, mark: u32)
+        requires { Fits (N.Network.meaning net.now).persons mark (lanes_of self.old) self.old.near.now }
+        ensures same { SameLanes self.old self.new }
+        ensures fits { Fits (N.Network.meaning net.now).persons mark (lanes_of self.new) self.new.near.now }
+        ensures falling { Ready (graph_of (N.Network.meaning net.now)) (lanes_of self.old) → Falling (graph_of (N.Network.meaning net.now)) k (N.Network.meaning net.now).persons mark (alive self.old.fell.now) (lanes_of self.old) (lanes_of self.new) self.old.tail [] }
+    {
+        // by index: a fall writes the lanes that the loop reads
+        for u in 0..self.fell.len() {
+            if self.fell[u] == 0 && self.degree[u] < k {
+                self.let_fall(u as u32, mark);
             }
         }
     }
-    end
-}
 
-// All whom the falls from `head` on leave with a degree below k fall too.
-pub(crate) fn cascade<N: Network>(
-    net: &N,
-    k: u32,
-    mark: u32,
-    head: usize,
-    tail: usize,
-    fell: &mut [u32],
-    degree: &mut [u32],
-    order: &mut [u32],
-    near: &mut [u32],
-) -> usize
-    requires lanes { (length fell.old ≡ (N.Network.meaning net.now).persons) × (length degree.old ≡ (N.Network.meaning net.now).persons) × (length order.old ≡ (N.Network.meaning net.now).persons) × (length near.old ≡ (N.Network.meaning net.now).persons) }
-    requires mark { 0 < mark }
-    requires tail { tail ≤ (N.Network.meaning net.now).persons }
-    ensures fallen { (X : Set) (old : Lanes) → Falling (graph_of (N.Network.meaning net.now)) k (N.Network.meaning net.now).persons mark X old (lanes fell.old degree.old order.old tail) head [] → (alive fell.new ≡ core (graph_of (N.Network.meaning net.now)) k X) × Fallen (graph_of (N.Network.meaning net.now)) k mark old (lanes fell.new degree.new order.new result) }
-{
-    let mut head = head;
-    let mut tail = tail;
-    while head < tail {
-        let u = order[head] as usize;
-        head += 1;
-        tail = settle(net, u, k, mark, tail, fell, degree, order, near);
+    // All whom the falls from `head` on leave with a degree below k fall too.
+    pub(crate) fn follow<N: Network>(&mut self, net: &N, k: u32, mark: u32, head: usize)
+        requires { Fits (N.Network.meaning net.now).persons mark (lanes_of self.old) self.old.near.now }
+        ensures same { SameLanes self.old self.new }
+        ensures fallen { (X : Set) (old : Lanes) → Falling (graph_of (N.Network.meaning net.now)) k (N.Network.meaning net.now).persons mark X old (lanes_of self.old) head [] → (alive self.new.fell.now ≡ core (graph_of (N.Network.meaning net.now)) k X) × Fallen (graph_of (N.Network.meaning net.now)) k mark old (lanes_of self.new) }
+    {
+        let mut head = head;
+        // by index: the order grows while it is read
+        while head < self.tail {
+            let u = self.order[head] as usize;
+            head += 1;
+            self.settle(net, u, k, mark);
+        }
     }
-    tail
 }

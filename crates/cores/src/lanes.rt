@@ -1,90 +1,74 @@
-// Cascades over lanes that a caller keeps: safe on any lanes, and right where the lanes were right.
+// Cascades over lanes that a caller lends: safe on any lanes, and right where the lanes were right.
 ghost use Rattle.std.specs.Prelude.{◌≡◌, ℕ, ◌≤◌, true, false, ◌&&◌, length, ◌==◌, slice_index};
 ghost use Rattle.meaning.specs.Persons.{graph_of};
 ghost use Rattle.theory.specs.Cores.{core, everyone};
 ghost use Rattle.theory.specs.Sets.{◌∈◌, without};
-ghost use Rattle.cores.specs.Lanes.{lanes, fitting, alive, Counted, Ready, Fallen};
+ghost use Rattle.cores.specs.Lanes.{fitting, alive, Counted, Ready, Fallen};
+ghost use Rattle.cores.specs.Lent.{lanes_of, SameLanes};
 
-use crate::falling::{cascade, drop_weak, let_fall};
 use networks::Network;
 
-fn lanes_fit(
-    n: usize,
-    mark: u32,
-    tail: usize,
-    fell: &[u32],
-    degree: &[u32],
-    order: &[u32],
-    near: &[u32],
-) -> bool
-    ensures { result ≡ fitting n mark (lanes fell.now degree.now order.now tail) near.now }
-{
-    (mark > 0 && tail <= n)
-        && ((fell.len() == n && degree.len() == n) && (order.len() == n && near.len() == n))
+// A place in each lane for each person. `fell` holds 0 for who stands, and else a mark: callers lend all lanes from one row of numbers.
+#[derive(Drop)]
+pub struct Cascade<'a> {
+    pub fell: &'a mut [u32],
+    pub degree: &'a mut [u32],
+    // those who fell, in the order in which they fell, as many as `tail`
+    pub order: &'a mut [u32],
+    pub tail: usize,
+    // room for the neighbours of a person
+    pub near: &'a mut [u32],
 }
 
-// Everyone stands, with all their links.
-pub fn raise<N: Network>(net: &N, fell: &mut [u32], degree: &mut [u32])
-    ensures unfit { (length fell.old == (N.Network.meaning net.now).persons && length degree.old == (N.Network.meaning net.now).persons) ≡ false → (fell.new ≡ fell.old) × (degree.new ≡ degree.old) }
-    ensures raised { (length fell.old == (N.Network.meaning net.now).persons && length degree.old == (N.Network.meaning net.now).persons) ≡ true → (alive fell.new ≡ everyone (graph_of (N.Network.meaning net.now))) × Counted (graph_of (N.Network.meaning net.now)) fell.new degree.new }
-{
-    let n = net.persons();
-    if !(fell.len() == n && degree.len() == n) {
-        return;
+impl<'a> Cascade<'a> {
+    fn fits<N: Network>(&self, net: &N, mark: u32) -> bool
+        ensures { result ≡ fitting (N.Network.meaning net.now).persons mark (lanes_of self.now) self.now.near.now }
+    {
+        let n = net.persons();
+        (mark > 0 && self.tail <= n)
+            && ((self.fell.len() == n && self.degree.len() == n)
+                && (self.order.len() == n && self.near.len() == n))
     }
-    for u in 0..n {
-        fell[u] = 0;
-        degree[u] = net.degree(u) as u32;
-    }
-}
 
-// The k-core of those who stand is left; the answer is where the order ends.
-pub fn shrink<N: Network>(
-    net: &N,
-    k: u32,
-    mark: u32,
-    tail: usize,
-    fell: &mut [u32],
-    degree: &mut [u32],
-    order: &mut [u32],
-    near: &mut [u32],
-) -> usize
-    ensures unfit { fitting (N.Network.meaning net.now).persons mark (lanes fell.old degree.old order.old tail) near.old ≡ false → ((lanes fell.new degree.new order.new result) ≡ (lanes fell.old degree.old order.old tail)) × (near.new ≡ near.old) }
-    ensures fallen { fitting (N.Network.meaning net.now).persons mark (lanes fell.old degree.old order.old tail) near.old ≡ true → Ready (graph_of (N.Network.meaning net.now)) (lanes fell.old degree.old order.old tail) → (alive fell.new ≡ core (graph_of (N.Network.meaning net.now)) k (alive fell.old)) × Fallen (graph_of (N.Network.meaning net.now)) k mark (lanes fell.old degree.old order.old tail) (lanes fell.new degree.new order.new result) }
-{
-    let n = net.persons();
-    if !lanes_fit(n, mark, tail, fell, degree, order, near) {
-        return tail;
+    // Everyone stands, with all their links.
+    pub fn raise<N: Network>(&mut self, net: &N)
+        ensures same { SameLanes self.old self.new }
+        ensures rest { (self.new.order.now ≡ self.old.order.now) × (self.new.tail ≡ self.old.tail) × (self.new.near.now ≡ self.old.near.now) }
+        ensures unfit { (length self.old.fell.now == (N.Network.meaning net.now).persons && length self.old.degree.now == (N.Network.meaning net.now).persons) ≡ false → (self.new.fell.now ≡ self.old.fell.now) × (self.new.degree.now ≡ self.old.degree.now) }
+        ensures raised { (length self.old.fell.now == (N.Network.meaning net.now).persons && length self.old.degree.now == (N.Network.meaning net.now).persons) ≡ true → (alive self.new.fell.now ≡ everyone (graph_of (N.Network.meaning net.now))) × Counted (graph_of (N.Network.meaning net.now)) self.new.fell.now self.new.degree.now }
+    {
+        let n = net.persons();
+        if self.fell.len() == n && self.degree.len() == n {
+            self.fell.fill(0);
+            for (u, degree) in self.degree.iter_mut().enumerate() {
+                *degree = net.degree(u) as u32;
+            }
+        }
     }
-    let end = drop_weak(net, k, mark, tail, fell, degree, order);
-    cascade(net, k, mark, tail, end, fell, degree, order, near)
-}
 
-// Where everyone who stands has degree k at least: w falls, and all who cannot stand without.
-pub fn take_out<N: Network>(
-    net: &N,
-    w: usize,
-    k: u32,
-    mark: u32,
-    tail: usize,
-    fell: &mut [u32],
-    degree: &mut [u32],
-    order: &mut [u32],
-    near: &mut [u32],
-) -> usize
-    ensures unfit { fitting (N.Network.meaning net.now).persons mark (lanes fell.old degree.old order.old tail) near.old ≡ false → ((lanes fell.new degree.new order.new result) ≡ (lanes fell.old degree.old order.old tail)) × (near.new ≡ near.old) }
-    ensures fallen { fitting (N.Network.meaning net.now).persons mark (lanes fell.old degree.old order.old tail) near.old ≡ true → Ready (graph_of (N.Network.meaning net.now)) (lanes fell.old degree.old order.old tail) → ((v : ℕ) → v ∈ alive fell.old → k ≤ slice_index degree.old v) → (alive fell.new ≡ core (graph_of (N.Network.meaning net.now)) k (without (alive fell.old) w)) × Fallen (graph_of (N.Network.meaning net.now)) k mark (lanes fell.old degree.old order.old tail) (lanes fell.new degree.new order.new result) }
-{
-    let n = net.persons();
-    if !lanes_fit(n, mark, tail, fell, degree, order, near) {
-        return tail;
+    // The k-core of those who stand is left.
+    pub fn shrink<N: Network>(&mut self, net: &N, k: u32, mark: u32)
+        ensures same { SameLanes self.old self.new }
+        ensures unfit { fitting (N.Network.meaning net.now).persons mark (lanes_of self.old) self.old.near.now ≡ false → (lanes_of self.new ≡ lanes_of self.old) × (self.new.near.now ≡ self.old.near.now) }
+        ensures fallen { fitting (N.Network.meaning net.now).persons mark (lanes_of self.old) self.old.near.now ≡ true → Ready (graph_of (N.Network.meaning net.now)) (lanes_of self.old) → (alive self.new.fell.now ≡ core (graph_of (N.Network.meaning net.now)) k (alive self.old.fell.now)) × Fallen (graph_of (N.Network.meaning net.now)) k mark (lanes_of self.old) (lanes_of self.new) }
+    {
+        if self.fits(net, mark) {
+            let head = self.tail;
+            self.drop_weak(net, k, mark);
+            self.follow(net, k, mark, head);
+        }
     }
-    if w >= n {
-        return tail;
+
+    // Where everyone who stands has degree k at least: w falls, and all who cannot stand without.
+    pub fn take_out<N: Network>(&mut self, net: &N, w: usize, k: u32, mark: u32)
+        ensures same { SameLanes self.old self.new }
+        ensures unfit { fitting (N.Network.meaning net.now).persons mark (lanes_of self.old) self.old.near.now ≡ false → (lanes_of self.new ≡ lanes_of self.old) × (self.new.near.now ≡ self.old.near.now) }
+        ensures fallen { fitting (N.Network.meaning net.now).persons mark (lanes_of self.old) self.old.near.now ≡ true → Ready (graph_of (N.Network.meaning net.now)) (lanes_of self.old) → ((v : ℕ) → v ∈ alive self.old.fell.now → k ≤ slice_index self.old.degree.now v) → (alive self.new.fell.now ≡ core (graph_of (N.Network.meaning net.now)) k (without (alive self.old.fell.now) w)) × Fallen (graph_of (N.Network.meaning net.now)) k mark (lanes_of self.old) (lanes_of self.new) }
+    {
+        if self.fits(net, mark) && w < self.fell.len() && self.fell[w] == 0 {
+            let first = self.tail;
+            self.let_fall(w as u32, mark);
+            self.follow(net, k, mark, first);
+        }
     }
-    if fell[w] == 0 {
-        let end = let_fall(w as u32, mark, tail, fell, order);
-        return cascade(net, k, mark, tail, end, fell, degree, order, near);
-    }
-    tail
 }

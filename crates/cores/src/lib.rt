@@ -5,5 +5,5 @@ mod falling;
 pub mod lanes;
 pub mod numbers;
 
-pub use lanes::{raise, shrink, take_out};
+pub use lanes::Cascade;
 pub use numbers::cores;

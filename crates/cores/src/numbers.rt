@@ -5,52 +5,43 @@ ghost use Rattle.grades.specs.Places.{onto};
 ghost use Rattle.meaning.specs.Persons.{graph_of, cores_of};
 ghost use Rattle.theory.specs.Cores.{core_number};
 ghost use Rattle.cores.specs.Answer.{cores_fault, KeptIf};
-ghost use Rattle.cores.specs.Lanes.{alive};
+ghost use Rattle.cores.specs.Lanes.{alive, Fits};
+ghost use Rattle.cores.specs.Lent.{lanes_of};
 
-use crate::lanes::{raise, shrink};
+use crate::lanes::Cascade;
 use faults::CallFault;
 use networks::Network;
 
-// Writes k for everyone who stands; is there anybody?
-fn note(fell: &[u32], k: u32, row: &mut [u32]) -> bool
-    requires { length fell.now ≤ length row.old }
-    ensures some { (v : ℕ) → alive fell.now v ≡ true → result ≡ true }
-    ensures written { (v : ℕ) → alive fell.now v ≡ true → slice_index row.new v ≡ k }
-    ensures rest { (v : ℕ) → alive fell.now v ≡ false → slice_index row.new v ≡ slice_index row.old v }
-{
-    let mut some = false;
-    for v in 0..fell.len() {
-        if fell[v] == 0 {
-            row[v] = k;
-            some = true;
+impl<'a> Cascade<'a> {
+    // Writes k for everyone who stands; is there anybody?
+    fn note(&self, k: u32, row: &mut [u32]) -> bool
+        requires { length self.now.fell.now ≤ length row.old }
+        ensures some { (v : ℕ) → alive self.now.fell.now v ≡ true → result ≡ true }
+        ensures written { (v : ℕ) → alive self.now.fell.now v ≡ true → slice_index row.new v ≡ k }
+        ensures rest { (v : ℕ) → alive self.now.fell.now v ≡ false → slice_index row.new v ≡ slice_index row.old v }
+    {
+        for (v, mark) in self.fell.iter().enumerate() {
+            if *mark == 0 {
+                row[v] = k;
+            }
         }
+        self.fell.contains(&0)
     }
-    some
 }
 
 // The core numbers, into the first places of the row.
-fn number_all<N: Network>(
-    net: &N,
-    fell: &mut [u32],
-    degree: &mut [u32],
-    order: &mut [u32],
-    near: &mut [u32],
-    row: &mut [u32],
-)
-    requires lanes { (length fell.old ≡ (N.Network.meaning net.now).persons) × (length degree.old ≡ (N.Network.meaning net.now).persons) × (length order.old ≡ (N.Network.meaning net.now).persons) × (length near.old ≡ (N.Network.meaning net.now).persons) }
+fn number_all<N: Network>(net: &N, cascade: &mut Cascade, row: &mut [u32])
+    requires lanes { Fits (N.Network.meaning net.now).persons 1 (lanes_of cascade.old) cascade.old.near.now }
+    requires start { cascade.old.tail ≡ 0 }
     requires places { (N.Network.meaning net.now).persons ≤ length row.old }
     ensures numbers { (v : ℕ) → v < (N.Network.meaning net.now).persons → slice_index row.new v ≡ core_number (graph_of (N.Network.meaning net.now)) v }
     ensures rest { (v : ℕ) → (N.Network.meaning net.now).persons ≤ v → slice_index row.new v ≡ slice_index row.old v }
 {
-    raise(net, fell, degree);
-    note(fell, 0, row);
-    let n = fell.len();
-    let mut tail: usize = 0;
-    let mut k: u32 = 0;
-    while (k as usize) < n {
-        k += 1;
-        tail = shrink(net, k, 1, tail, fell, degree, order, near);
-        if !note(fell, k, row) {
+    cascade.raise(net);
+    cascade.note(0, row);
+    for k in 1..=net.persons() as u32 {
+        cascade.shrink(net, k, 1);
+        if !cascade.note(k, row) {
             return;
         }
     }
@@ -73,6 +64,13 @@ pub fn cores<N: Network>(net: &N, scratch: &mut [u32], row: &mut [u32]) -> Resul
     let (degree, rest) = rest.split_at_mut(n);
     let (order, rest) = rest.split_at_mut(n);
     let (near, _) = rest.split_at_mut(n);
-    number_all(net, fell, degree, order, near, row);
+    let mut cascade = Cascade {
+        fell,
+        degree,
+        order,
+        tail: 0,
+        near,
+    };
+    number_all(net, &mut cascade, row);
     Ok(())
 }
