@@ -1,6 +1,6 @@
 -- The check byte: with it the sum is a multiple of 256, and only with it. Assumes nothing.
 use Rattle.std.proofs.Common.{◌≡◌, ℕ, ◌+◌, ◌-◌, ◌%◌, ◌<◌, Bool, true, false, cond, eqb, List, [], ◌∷◌, ◌++◌, length, get_or, take, drop, Some, None, sym, refl, ap, ◌∙◌, arith}
-use Rattle.std.specs.List.{AllByRecursion}
+use Rattle.std.specs.List.{fold, AllByRecursion}
 use Rattle.std.proofs.ByRecursion.{All-get_or, All-push}
 use Rattle.std.proofs.lemmas.List.{drop_more, drop_all, take-append-drop, length-append}
 use Rattle.std.proofs.lemmas.Bool.{eq-eqb, eqb-true}
@@ -11,6 +11,10 @@ use Rattle.frames.specs.Frames.{total, check_of, framed, frame_fault}
 total_push : (xs : List ℕ) (y : ℕ) → total (xs ++ y ∷ []) ≡ total xs + y
 total_push [] y = omega arith
 total_push (x ∷ xs) y = let e = total_push xs y in omega arith
+
+pub fold_total : (bs : List ℕ) (n : ℕ) → n < 256 → fold (λ sum b. (sum + b) % 256) n bs ≡ (n + total bs) % 256
+fold_total [] n h = omega arith
+fold_total (b ∷ bs) n h = let e = fold_total bs ((n + b) % 256) (omega arith) in omega arith
 
 pub framed_sum : (xs : List ℕ) → total (framed xs) % 256 ≡ 0
 framed_sum xs = let e = total_push xs (check_of xs) in omega arith

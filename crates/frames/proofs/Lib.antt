@@ -2,7 +2,6 @@ pub mod Spelling
 pub mod Letters
 pub mod Checks
 pub mod Faithful
-pub mod Fields
 pub mod Sealing
-pub mod RequestBytes
-pub mod ReplyBytes
+pub mod Meant
+pub mod Calls

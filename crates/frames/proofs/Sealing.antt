@@ -1,10 +1,10 @@
 -- A row of bytes with its check byte is the frame of those bytes, and its line is theirs. Assumes nothing.
 use Rattle.std.proofs.Common.{◌≡◌, ℕ, suc, ◌+◌, ◌-◌, ◌≤◌, List, [], ◌∷◌, ◌++◌, length, take, drop, set, replicate, sym, refl, ap, ◌∙◌, arith}
-use Rattle.std.proofs.lemmas.List.{append_assoc, append-nil, length-replicate, drop-replicate, set_at, take_all, take_at}
+use Rattle.std.proofs.lemmas.List.{append_assoc, append-nil, length-replicate, drop-replicate, drop_all, drop_at, length-append, set_at, take_all, take_at}
 use borrow.Rule.Slice.PartMut.{put_mid}
 use Rattle.grades.specs.Places.{onto}
 use Rattle.frames.specs.declared.frame.Frame.{Frame}
-use Rattle.frames.specs.Frames.{framed, check_of, bytes16}
+use Rattle.frames.specs.Frames.{framed, check_of}
 use Rattle.frames.specs.declared.line.Line.{Line}
 use Rattle.frames.specs.Lines.{padded, frame_of, held, line_of, typed, shown}
 use Rattle.frames.proofs.Checks.{length_framed}
@@ -30,12 +30,19 @@ onto_zeros xs n h =
     let m : length (replicate {A = ℕ} n 0) ≡ n = length-replicate n 0 in
     ap (λ t. t ++ drop (length xs) (replicate n 0)) (take_all (length (replicate n 0)) xs (omega arith)) ∙ ap (λ t. xs ++ t) (drop-replicate (length xs) n 0)
 
--- the bytes of a grade behind kind and person
-pub grade_written : (k p : ℕ) (row places xs : List ℕ) → row ≡ padded (k ∷ bytes16 p) → places ≡ onto xs (take 29 (drop 3 row)) → length xs ≤ 16 → put_mid 3 29 row places ≡ padded (k ∷ bytes16 p ++ xs)
-grade_written k p row places xs e w h =
-    let n : 29 - length xs ≡ 32 - length (k ∷ bytes16 p ++ xs) = omega arith in
-    ap (λ r. put_mid 3 29 r places) e
-    ∙ ap (λ r. k ∷ bytes16 p ++ r) (append-nil places ∙ w ∙ ap (λ r. onto xs (take 29 (drop 3 r))) e ∙ onto_zeros xs 29 (omega arith) ∙ ap (λ j. xs ++ replicate j 0) n)
+-- one part more behind those before it
+pub part_more : (xs part row places : List ℕ) (n : ℕ) → length xs ≡ n → n + length part ≤ 32 → row ≡ padded xs → places ≡ onto part (take (32 - n) (drop n row)) → put_mid n (32 - n) row places ≡ padded (xs ++ part)
+part_more xs part row places n l h e w =
+    let zeros : List ℕ = replicate (32 - length xs) 0 in
+    let room : 32 - length xs ≡ 32 - n = omega arith in
+    let long : length zeros ≡ 32 - n = length-replicate (32 - length xs) 0 ∙ room in
+    let front : take n row ≡ xs = ap (take n) e ∙ take_at xs zeros n l in
+    let rest : drop n row ≡ zeros = ap (drop n) e ∙ drop_at xs zeros n l in
+    let lent : take (32 - n) (drop n row) ≡ zeros = ap (take (32 - n)) rest ∙ take_all (32 - n) zeros (omega arith) in
+    let behind : drop (32 - n) (drop n row) ≡ [] = ap (drop (32 - n)) rest ∙ drop_all (32 - n) zeros (omega arith) in
+    let less : 32 - length xs - length part ≡ 32 - length (xs ++ part) = (let m = length-append xs part in omega arith) in
+    let written : places ≡ part ++ replicate (32 - length (xs ++ part)) 0 = w ∙ ap (onto part) lent ∙ onto_zeros part (32 - length xs) (omega arith) ∙ ap (λ k. part ++ replicate k 0) less in
+    ap (λ t. t ++ (places ++ drop (32 - n) (drop n row))) front ∙ ap (λ t. xs ++ (places ++ t)) behind ∙ ap (λ t. xs ++ t) (append-nil places ∙ written) ∙ sym (append_assoc xs part (replicate (32 - length (xs ++ part)) 0))
 
 pub shown_typed : (cs : List ℕ) → shown (typed cs) ≡ cs
 shown_typed cs = take_at cs (replicate (64 - length cs) 0) (length cs) refl

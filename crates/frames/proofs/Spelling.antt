@@ -1,6 +1,7 @@
 -- One turn of the line reader and of the line writer. Assumes nothing.
-use Rattle.std.proofs.Common.{◌≡◌, ℕ, suc, ◌+◌, ◌-◌, ◌*◌, ◌/◌, ◌%◌, ◌<◌, ◌≤◌, min, Bool, true, false, cond, ◌&&◌, List, [], ◌∷◌, ◌++◌, length, get_or, take, drop, set, replicate, Some, None, Ok, Err, Result, sym, refl, ap, ◌∙◌, inl, inr, arith}
-use Rattle.std.proofs.lemmas.List.{append_assoc, append-nil, length-take-le, drop_all, drop-drop, drop_more, drop-replicate, drop-set-lt, set-append_right, take_all, take-append-drop, take_more, take_more_set}
+use Rattle.std.proofs.Common.{◌≡◌, ℕ, zero, suc, ◌+◌, ◌-◌, ◌*◌, ◌/◌, ◌%◌, ◌<◌, ◌≤◌, min, Bool, true, false, cond, ◌&&◌, List, [], ◌∷◌, ◌++◌, length, get_or, take, drop, set, replicate, Some, None, Ok, Err, Result, sym, refl, ap, ◌∙◌, inl, inr, arith}
+use Rattle.std.proofs.lemmas.List.{append_assoc, append-nil, length-take-le, drop_all, drop-drop, drop_more, drop-replicate, drop-set-lt, get_or-drop, get_or-take, set-append_right, take_all, take-append-drop, take_more, take_more_set}
+use Rattle.std.specs.Simd.{first_chunks}
 use Rattle.std.proofs.lemmas.Bool.{cases_lt}
 use Rattle.std.proofs.lemmas.Bool.Decides.{nat_tests}
 use Rattle.frames.specs.declared.fault.LineFault.{LineFault}
@@ -8,7 +9,7 @@ use Rattle.frames.specs.declared.fault.LineFault.TheVariants.{WrongSize, NoDigit
 use Rattle.frames.specs.declared.frame.Frame.{Frame}
 use Rattle.frames.specs.declared.line.Line.{Line}
 use Rattle.frames.specs.Digits.{is_digit, value_of, letter_of, digit_of}
-use Rattle.frames.specs.Lines.{all_digits, bytes_in, line_of, wrong_size, line_fault, granted, unless, held, frame_of, frame_after, typed}
+use Rattle.frames.specs.Lines.{all_digits, bytes_in, line_of, wrong_size, line_fault, granted, unless, frame_of, frame_after, typed}
 
 pub right_size : (n : ℕ) → wrong_size n ≡ false → (0 < n) × (n % 2 ≡ 0) × (n ≤ 64)
 right_size n e = (grind (arith, nat_tests), grind (arith, nat_tests), grind (arith, nat_tests))
@@ -119,9 +120,21 @@ take_min xs n m e = elim (cases_lt n m) [
   | inr h ↦ ap (λ k. take k xs) (omega arith) ∙ take_all m xs (omega arith) ∙ sym (take_all n xs (omega arith))
 ]
 
-pub line_all : (f : Frame) (text : List ℕ) (n i : ℕ) → length f.bytes ≡ 32 → n ≡ min f.len 32 → i ≡ n → text ≡ line_of (take i f.bytes) ++ replicate (64 - 2 * i) 0 → ◌≡◌ {A = Line} (record { text = text; len = 2 * n }) (typed (line_of (held f)))
-line_all f text n i l e j t =
-    let s : take i f.bytes ≡ held f = ap (λ k. take k f.bytes) (j ∙ e) ∙ take_min f.bytes f.len 32 l in
-    let m : length (line_of (held f)) ≡ 2 * n = length_line (held f) ∙ ap (λ x. 2 * length x) (sym s) ∙ ap (λ k. 2 * k) (length-take-le i f.bytes (omega arith) ∙ j) in
-    let w : text ≡ line_of (held f) ++ replicate (64 - length (line_of (held f))) 0 = t ∙ ap (λ x. line_of x ++ replicate (64 - 2 * i) 0) s ∙ ap (λ k. line_of (held f) ++ replicate (64 - k) 0) (ap (λ k. 2 * k) j ∙ sym m) in
-    ap (λ k. record { text = text; len = k }) (sym m) ∙ ap (λ x. record { text = x; len = length (line_of (held f)) }) w
+pub line_all : (bs text : List ℕ) (i : ℕ) → i ≡ length bs → text ≡ line_of (take i bs) ++ replicate (64 - 2 * i) 0 → ◌≡◌ {A = Line} (record { text = text; len = 2 * length bs }) (typed (line_of bs))
+line_all bs text i j t =
+    let s : take i bs ≡ bs = take_all i bs (omega arith) in
+    let m : length (line_of bs) ≡ 2 * length bs = length_line bs in
+    let w : text ≡ line_of bs ++ replicate (64 - length (line_of bs)) 0 = t ∙ ap (λ x. line_of x ++ replicate (64 - 2 * i) 0) s ∙ ap (λ k. line_of bs ++ replicate (64 - k) 0) (ap (λ k. 2 * k) j ∙ sym m) in
+    ap (λ k. record { text = text; len = k }) (sym m) ∙ ap (λ x. record { text = x; len = length (line_of bs) }) w
+
+-- the characters of a line in pairs
+pair_at : (n i : ℕ) (cs : List ℕ) → i < n → get_or (first_chunks 2 n cs) i [] ≡ take 2 (drop (2 * i) cs)
+pair_at zero i cs h = absurd (omega arith)
+pair_at (suc n) zero cs h = refl
+pair_at (suc n) (suc i) cs h =
+    let twice : 2 + 2 * i ≡ 2 * suc i = omega arith in
+    pair_at n i (drop 2 cs) (omega arith) ∙ ap (take 2) (drop-drop (2 * i) 2 cs ∙ ap (λ k. drop k cs) twice)
+
+pub pair : (pairs : List (List ℕ)) (cs : List ℕ) (n i k j : ℕ) → pairs ≡ first_chunks 2 n cs → i < n → k < 2 → 2 * i + k ≡ j → get_or (get_or pairs i []) k 0 ≡ get_or cs j 0
+pair pairs cs n i k j e h l m =
+    ap (λ ps. get_or (get_or ps i []) k 0) e ∙ ap (λ p. get_or p k 0) (pair_at n i cs h) ∙ get_or-take 2 (drop (2 * i) cs) k 0 l ∙ get_or-drop (2 * i) cs k 0 ∙ ap (λ x. get_or cs x 0) m

@@ -1,4 +1,5 @@
 -- A line is accepted exactly when it is the line that its request or reply is written as. Assumes nothing.
+--     written_line bytes x        the line of the bytes of x with their check byte
 --     request_line put q          the line that q is written as, where put g are the bytes of the grade g
 --     reply_line p                the line that p is written as
 --     refusal_in r                the refusal that r tells, if any
@@ -12,11 +13,14 @@ use Rattle.frames.specs.Lines.{line_of}
 use Rattle.frames.specs.Replies.{reply_bytes}
 use Rattle.frames.specs.Requests.{request_bytes}
 
+abbrev pub written_line : {X : Type 0} → (X → List ℕ) → X → List ℕ
+written_line bytes x = line_of (framed (bytes x))
+
 abbrev pub request_line : {G : Type 0} → (G → List ℕ) → Request G → List ℕ
-request_line put q = line_of (framed (request_bytes put q))
+request_line put = written_line (request_bytes put)
 
 abbrev pub reply_line : Reply → List ℕ
-reply_line p = line_of (framed (reply_bytes p))
+reply_line = written_line reply_bytes
 
 abbrev pub refusal_in : {X : Type 0} → Result X FrameFault → Option FrameFault
 refusal_in (Ok x) = None

@@ -9,9 +9,9 @@ use Rattle.frames.specs.Lines.{bytes_in, frame_of}
 use Rattle.frames.specs.Reading.{request_refusal, reply_refusal}
 
 abbrev pub example_line : Example → List ℕ
-example_line e = take (2 * e.len) e.line
+example_line e = take (2 * e.frame.len) e.line
 
 abbrev pub Stands : Example → Type 0
 Stands e =
-    (frame_of (bytes_in (example_line e)) ≡ record { bytes = e.bytes; len = e.len }) × (kind_in e.bytes ≡ e.kind)
+    (frame_of (bytes_in (example_line e)) ≡ e.frame) × (kind_in e.frame.bytes ≡ e.kind)
     × (cond (is_request e.kind) (request_refusal 4 (example_line e)) (reply_refusal (example_line e)) ≡ None)

@@ -8,3 +8,6 @@ pub mod Reading
 pub mod Replies
 pub mod Exact
 pub mod Examples
+pub mod Fields
+pub mod RequestLaws
+pub mod ReplyLaws

@@ -1,13 +1,15 @@
 -- What a line is read as. Assumes nothing.
 --     request_fault size bs       the first refusal of a frame that is sent to a program, where a grade takes size bytes
 --     reply_fault bs              .. of one that a program printed
---     first_of o p                the first refusal of a line, or else of its frame
+--     first_refusal o p           the first refusal of a line, or else of its frame
 --     request_refusal size cs     the first refusal of a line that is sent to a program
 --     reply_refusal cs            .. of one that a program printed
+--     meant m                     what a frame means, or that it is of no kind
 --     answered o m                the answer: the refusal, or what the frame means
+--     reading known long m cs     what a line is read as, by which kinds are known, how long they are and what frames mean
 --     read_request get size cs    the request in the line, or the line's first refusal
 --     read_reply cs               the reply in the line, or its first refusal; an FF of no layer is of no kind
-use Rattle.std.specs.Prelude.{ℕ, List, Some, None, Ok, Err, Option, Result}
+use Rattle.std.specs.Prelude.{ℕ, Bool, List, Some, None, Ok, Err, Option, Result}
 use Rattle.frames.specs.declared.fault.FrameFault.{FrameFault}
 use Rattle.frames.specs.declared.fault.FrameFault.TheVariants.{Line, UnknownKind}
 use Rattle.frames.specs.declared.fault.LineFault.{LineFault}
@@ -25,20 +27,28 @@ request_fault size bs = frame_fault (is_request (kind_in bs)) (length_of size (k
 abbrev pub reply_fault : List ℕ → Option FrameFault
 reply_fault bs = frame_fault (is_reply (kind_in bs)) (table_length (kind_in bs)) bs
 
-abbrev pub first_of : Option LineFault → Option FrameFault → Option FrameFault
-first_of None p = p
-first_of (Some e) p = Some (Line e)
+abbrev pub first_refusal : Option LineFault → Option FrameFault → Option FrameFault
+first_refusal None p = p
+first_refusal (Some e) p = Some (Line e)
 
 abbrev pub request_refusal : ℕ → List ℕ → Option FrameFault
-request_refusal size cs = first_of (line_fault cs) (request_fault size (bytes_in cs))
+request_refusal size cs = first_refusal (line_fault cs) (request_fault size (bytes_in cs))
 
 abbrev pub reply_refusal : List ℕ → Option FrameFault
-reply_refusal cs = first_of (line_fault cs) (reply_fault (bytes_in cs))
+reply_refusal cs = first_refusal (line_fault cs) (reply_fault (bytes_in cs))
+
+abbrev pub meant : {X : Type 0} → Option X → Result X FrameFault
+meant None = Err UnknownKind
+meant (Some x) = Ok x
 
 abbrev pub answered : {X : Type 0} → Option FrameFault → Option X → Result X FrameFault
 answered (Some e) m = Err e
-answered None None = Err UnknownKind
-answered None (Some x) = Ok x
+answered None m = meant m
+
+abbrev pub reading : {X : Type 0} → (ℕ → Bool) → (ℕ → ℕ) → (List ℕ → Option X) → List ℕ → Result X FrameFault
+reading known long meaning cs =
+    let bs = bytes_in cs in
+    answered (first_refusal (line_fault cs) (frame_fault (known (kind_in bs)) (long (kind_in bs)) bs)) (meaning bs)
 
 abbrev pub read_request : {G : Type 0} → (List ℕ → Option G) → ℕ → List ℕ → Result (Request G) FrameFault
 read_request get size cs = answered (request_refusal size cs) (request_of get size (bytes_in cs))

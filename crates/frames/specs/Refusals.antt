@@ -1,7 +1,9 @@
 -- The number and the layer of each refusal of a line or a frame. Assumes nothing.
 --     fault_number f, fault_layer f the number of the refusal f, and the layer that it comes from
 --     layer_number l              the number of the layer
-use Rattle.std.specs.Prelude.{ℕ}
+--     layer_of b                  the layer of that number
+--     named o                     what a number names, or that it names no kind
+use Rattle.std.specs.Prelude.{ℕ, cond, Some, None, Ok, Err, Option, Result, ◌==◌}
 use Rattle.frames.specs.declared.fault.LineFault.TheVariants.{WrongSize, NoDigit}
 use Rattle.frames.specs.declared.fault.FrameFault.{FrameFault}
 use Rattle.frames.specs.declared.fault.FrameFault.TheVariants.{Line, UnknownKind, WrongLength, WrongCheck}
@@ -25,3 +27,10 @@ abbrev pub layer_number : Layer → ℕ
 layer_number layer.Line = 1
 layer_number layer.Frame = 2
 layer_number layer.Call = 3
+
+abbrev pub layer_of : ℕ → Option Layer
+layer_of b = cond (b == 1) (Some layer.Line) (cond (b == 2) (Some layer.Frame) (cond (b == 3) (Some layer.Call) None))
+
+abbrev pub named : {X : Type 0} → Option X → Result X FrameFault
+named None = Err UnknownKind
+named (Some x) = Ok x

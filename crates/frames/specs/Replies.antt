@@ -1,7 +1,6 @@
 -- Replies as bytes, both ways. Assumes nothing.
 --     reply_kind p                the kind of the reply
 --     reply_bytes p               its kind and fields
---     layer_of b                  the layer of that number
 --     reply_of bs                 the reply whose kind and fields stand in the bytes
 --     refusal_of f line           the reply that tells the refusal f of that line
 --     ReplyFits p                 the fields are in the range of their types
@@ -9,11 +8,10 @@ use Rattle.std.specs.Prelude.{ℕ, ◌<◌, cond, List, [], ◌∷◌, ◌++◌,
 use Rattle.grades.specs.Encoding.{bytes32}
 use Rattle.frames.specs.declared.fault.FrameFault.{FrameFault}
 use Rattle.frames.specs.declared.fault.Layer.{Layer}
-use Rattle.frames.specs.declared.fault.Layer.TheVariants as layer
 use Rattle.frames.specs.declared.reply.Reply.{Reply}
 use Rattle.frames.specs.declared.reply.Reply.TheVariants.{Done, Entries, Circle, Member, Core, Holder, NoHolder, Refusal}
 use Rattle.frames.specs.Frames.{kind_in, bytes16, word_at, long_at}
-use Rattle.frames.specs.Refusals.{fault_number, fault_layer, layer_number}
+use Rattle.frames.specs.Refusals.{fault_number, fault_layer, layer_number, layer_of}
 
 abbrev pub reply_kind : Reply → ℕ
 reply_kind (Done kind) = 128
@@ -34,9 +32,6 @@ reply_bytes (Core person number) = 132 ∷ bytes16 person ++ bytes16 number
 reply_bytes (Holder person) = 133 ∷ bytes16 person
 reply_bytes NoHolder = 134 ∷ []
 reply_bytes (Refusal number from line) = 255 ∷ number ∷ layer_number from ∷ bytes32 line
-
-abbrev pub layer_of : ℕ → Option Layer
-layer_of b = cond (b == 1) (Some layer.Line) (cond (b == 2) (Some layer.Frame) (cond (b == 3) (Some layer.Call) None))
 
 abbrev pub refusal_from : ℕ → Option Layer → ℕ → Option Reply
 refusal_from number None line = None

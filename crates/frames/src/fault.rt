@@ -1,9 +1,9 @@
 // What a line and a frame can be refused for, in the order of the numbers 1 to 5.
 ghost use Rattle.std.specs.Prelude.{◌≡◌};
 ghost use Rattle.frames.specs.declared.fault.FrameFault.TheVariants.{Line};
-ghost use Rattle.frames.specs.Refusals.{fault_number, fault_layer, layer_number};
+ghost use Rattle.frames.specs.Refusals.{fault_number, fault_layer, layer_number, named, layer_of};
 
-#[derive(Clone, Copy)]
+#[derive(Clone, Copy, PartialEq, Eq, Debug)]
 pub enum LineFault {
     // the line is empty, has an odd number of characters or more than 64
     WrongSize,
@@ -11,7 +11,7 @@ pub enum LineFault {
     NoDigit,
 }
 
-#[derive(Clone, Copy)]
+#[derive(Clone, Copy, PartialEq, Eq, Debug)]
 pub enum FrameFault {
     // there is no frame: the line was refused
     Line(LineFault),
@@ -26,47 +26,65 @@ pub enum FrameFault {
 impl From<LineFault> for FrameFault {
     ghost from_gives = { λ e r. r ≡ Line e };
 
-    fn from(e: LineFault) -> FrameFault {
-        FrameFault::Line(e)
-    }
-}
-
-// Where a refusal comes from.
-#[derive(Clone, Copy)]
-pub enum Layer {
-    Line,
-    Frame,
-    Call,
-}
-
-pub(crate) fn layer_number(layer: Layer) -> u8
-    ensures { result ≡ layer_number layer }
-{
-    match layer {
-        Layer::Line => 1,
-        Layer::Frame => 2,
-        Layer::Call => 3,
+    fn from(fault: LineFault) -> FrameFault {
+        FrameFault::Line(fault)
     }
 }
 
 // The number by which a refusal is told to people and programs.
-pub(crate) fn number_of(fault: FrameFault) -> u8
-    ensures { result ≡ fault_number fault }
-{
-    match fault {
-        FrameFault::Line(LineFault::WrongSize) => 1,
-        FrameFault::Line(LineFault::NoDigit) => 2,
-        FrameFault::UnknownKind => 3,
-        FrameFault::WrongLength => 4,
-        FrameFault::WrongCheck => 5,
+impl From<FrameFault> for u8 {
+    ghost from_gives = { λ f n. n ≡ fault_number f };
+
+    fn from(fault: FrameFault) -> u8 {
+        match fault {
+            FrameFault::Line(LineFault::WrongSize) => 1,
+            FrameFault::Line(LineFault::NoDigit) => 2,
+            FrameFault::UnknownKind => 3,
+            FrameFault::WrongLength => 4,
+            FrameFault::WrongCheck => 5,
+        }
     }
 }
 
-pub(crate) fn layer_of(fault: FrameFault) -> Layer
-    ensures { result ≡ fault_layer fault }
-{
-    match fault {
-        FrameFault::Line(_) => Layer::Line,
-        _ => Layer::Frame,
+// Where a refusal comes from.
+#[derive(Clone, Copy, PartialEq, Eq, Debug)]
+pub enum Layer {
+    Line = 1,
+    Frame = 2,
+    Call = 3,
+}
+
+impl From<FrameFault> for Layer {
+    ghost from_gives = { λ f l. l ≡ fault_layer f };
+
+    fn from(fault: FrameFault) -> Layer {
+        match fault {
+            FrameFault::Line(_) => Layer::Line,
+            FrameFault::UnknownKind | FrameFault::WrongLength | FrameFault::WrongCheck =>
+                Layer::Frame,
+        }
+    }
+}
+
+impl From<Layer> for u8 {
+    ghost from_gives = { λ l n. n ≡ layer_number l };
+
+    fn from(layer: Layer) -> u8 {
+        layer as u8
+    }
+}
+
+impl TryFrom<u8> for Layer {
+    type Error = FrameFault;
+
+    ghost try_from_gives = { λ b r. r ≡ named (layer_of b) };
+
+    fn try_from(number: u8) -> Result<Layer, FrameFault> {
+        match number {
+            1 => Ok(Layer::Line),
+            2 => Ok(Layer::Frame),
+            3 => Ok(Layer::Call),
+            _ => Err(FrameFault::UnknownKind),
+        }
     }
 }

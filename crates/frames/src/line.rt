@@ -6,7 +6,7 @@ use crate::digits::{digit, letter};
 use crate::fault::LineFault;
 use crate::frame::Frame;
 
-// The characters in front, and how many there are.
+// The characters in front, and how many there are: by value, so that nothing is allocated.
 #[derive(Clone, Copy)]
 pub struct Line {
     pub text: [u8; 64],
@@ -27,33 +27,37 @@ pub(crate) fn read_line(line: &[u8], frame: &mut Frame) -> Result<(), LineFault>
     if wrong_size(line.len()) {
         return Err(LineFault::WrongSize);
     }
+    let (pairs, _) = line.as_chunks::<2>();
     let mut bytes = [0u8; 32];
-    for i in 0..line.len() / 2 {
-        let high = digit(line[2 * i] as char)?;
-        let low = digit(line[2 * i + 1] as char)?;
+    for (i, [high, low]) in pairs.iter().enumerate() {
+        let high = digit(*high as char)?;
+        let low = digit(*low as char)?;
         bytes[i] = high * 16 + low;
     }
     *frame = Frame {
         bytes,
-        len: line.len() / 2,
+        len: pairs.len(),
     };
     Ok(())
 }
 
-pub(crate) fn write_line(frame: Frame) -> Line
-    ensures { result ≡ typed (line_of (held frame)) }
+pub(crate) fn write_line(frame: &Frame) -> Line
+    ensures { result ≡ typed (line_of (held frame.now)) }
 {
-    let len = frame.len.min(32);
+    let bytes = frame.contents();
     let mut text = [0u8; 64];
-    for i in 0..len {
-        text[2 * i] = letter(frame.bytes[i] / 16);
-        text[2 * i + 1] = letter(frame.bytes[i]);
+    for (i, b) in bytes.iter().enumerate() {
+        text[2 * i] = letter(b / 16);
+        text[2 * i + 1] = letter(*b);
     }
-    Line { text, len: 2 * len }
+    Line {
+        text,
+        len: 2 * bytes.len(),
+    }
 }
 
 pub fn characters(line: &Line) -> &[u8]
     ensures { result.now ≡ shown line.now }
 {
-    &line.text[0..line.len.min(64)]
+    &line.text[..line.len.min(64)]
 }

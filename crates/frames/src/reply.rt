@@ -1,26 +1,57 @@
 // What a program answers.
 ghost use Rattle.std.specs.Prelude.{◌≡◌};
-ghost use Rattle.frames.specs.Replies.{reply_kind, refusal_of};
+ghost use Rattle.std.proofs.Common.{rules};
+ghost use Rattle.frames.specs.Kinds.{KindRead, reply_number, is_reply, table_length};
+ghost use Rattle.frames.specs.ReplyLaws.{reply_forth};
+ghost use Rattle.frames.specs.Replies.{reply_kind, reply_bytes, reply_of, ReplyFits, refusal_of};
 
-use crate::fault::{FrameFault, Layer, layer_of, number_of};
+use crate::fault::{FrameFault, Layer};
+use crate::frame::Frame;
+use crate::kinds::table_length;
+use crate::message::Message;
+use crate::rows::row;
 
-pub const DONE: u8 = 0x80;
+#[derive(Clone, Copy, PartialEq, Eq, Debug)]
+pub enum ReplyKind {
+    Done = 0x80,
+    Entries = 0x81,
+    Circle = 0x82,
+    Member = 0x83,
+    Core = 0x84,
+    Holder = 0x85,
+    NoHolder = 0x86,
+    Refusal = 0xFF,
+}
 
-pub const ENTRIES: u8 = 0x81;
+impl From<ReplyKind> for u8 {
+    ghost from_gives = { λ k n. n ≡ reply_number k };
 
-pub const CIRCLE: u8 = 0x82;
+    fn from(kind: ReplyKind) -> u8 {
+        kind as u8
+    }
+}
 
-pub const MEMBER: u8 = 0x83;
+impl TryFrom<u8> for ReplyKind {
+    type Error = FrameFault;
 
-pub const CORE: u8 = 0x84;
+    ghost try_from_gives = { KindRead reply_number is_reply };
 
-pub const HOLDER: u8 = 0x85;
+    fn try_from(number: u8) -> Result<ReplyKind, FrameFault> {
+        match number {
+            0x80 => Ok(ReplyKind::Done),
+            0x81 => Ok(ReplyKind::Entries),
+            0x82 => Ok(ReplyKind::Circle),
+            0x83 => Ok(ReplyKind::Member),
+            0x84 => Ok(ReplyKind::Core),
+            0x85 => Ok(ReplyKind::Holder),
+            0x86 => Ok(ReplyKind::NoHolder),
+            0xFF => Ok(ReplyKind::Refusal),
+            _ => Err(FrameFault::UnknownKind),
+        }
+    }
+}
 
-pub const NO_HOLDER: u8 = 0x86;
-
-pub const REFUSAL: u8 = 0xFF;
-
-#[derive(Clone, Copy)]
+#[derive(Clone, Copy, PartialEq, Eq, Debug)]
 pub enum Reply {
     // the request of that kind is granted, and this is all
     Done { kind: u8 },
@@ -35,19 +66,107 @@ pub enum Reply {
     Refusal { number: u8, layer: Layer, line: u32 },
 }
 
-impl Reply {
-    pub(crate) fn kind(&self) -> u8
-        ensures { result ≡ reply_kind self.now }
-    {
+impl Message for Reply {
+    type Kind = ReplyKind;
+
+    ghost number = { reply_number };
+
+    ghost known = { is_reply };
+
+    ghost long = { table_length };
+
+    ghost bytes = { reply_bytes };
+
+    ghost meaning = { reply_of };
+
+    ghost Fits = { ReplyFits };
+
+    ghost kinds = { Prim.search rules };
+
+    ghost whole = { Prim.search rules };
+
+    ghost some = { Prim.search rules };
+
+    ghost room = { Prim.search rules };
+
+    ghost sized = { Prim.search rules };
+
+    ghost numbered = { Prim.search rules };
+
+    ghost back = { Prim.search rules };
+
+    ghost ranged = { λ bs p h l e. (reply_forth bs p h l e).0 };
+
+    ghost forth = { λ bs p h l e. (reply_forth bs p h l e).1 };
+
+    fn length(kind: ReplyKind) -> usize {
+        table_length(u8::from(kind))
+    }
+
+    fn kind(&self) -> ReplyKind {
         match self {
-            Reply::Done { .. } => DONE,
-            Reply::Entries { .. } => ENTRIES,
-            Reply::Circle { .. } => CIRCLE,
-            Reply::Member { .. } => MEMBER,
-            Reply::Core { .. } => CORE,
-            Reply::Holder { .. } => HOLDER,
-            Reply::NoHolder => NO_HOLDER,
-            Reply::Refusal { .. } => REFUSAL,
+            Reply::Done { .. } => ReplyKind::Done,
+            Reply::Entries { .. } => ReplyKind::Entries,
+            Reply::Circle { .. } => ReplyKind::Circle,
+            Reply::Member { .. } => ReplyKind::Member,
+            Reply::Core { .. } => ReplyKind::Core,
+            Reply::Holder { .. } => ReplyKind::Holder,
+            Reply::NoHolder => ReplyKind::NoHolder,
+            Reply::Refusal { .. } => ReplyKind::Refusal,
+        }
+    }
+
+    fn read(kind: ReplyKind, frame: &Frame) -> Result<Reply, FrameFault> {
+        let first = frame.word_at(1);
+        let second = frame.word_at(3);
+        Ok(match kind {
+            ReplyKind::Done => Reply::Done {
+                kind: frame.byte_at(1),
+            },
+            ReplyKind::Entries => Reply::Entries {
+                count: frame.long_at(1),
+            },
+            ReplyKind::Circle => Reply::Circle {
+                weakest: first,
+                members: second,
+            },
+            ReplyKind::Member => Reply::Member { person: first },
+            ReplyKind::Core => Reply::Core {
+                person: first,
+                number: second,
+            },
+            ReplyKind::Holder => Reply::Holder { person: first },
+            ReplyKind::NoHolder => Reply::NoHolder,
+            ReplyKind::Refusal => Reply::Refusal {
+                number: frame.byte_at(1),
+                layer: Layer::try_from(frame.byte_at(2))?,
+                line: frame.long_at(3),
+            },
+        })
+    }
+
+    fn row(&self) -> [u8; 32] {
+        let kind = [u8::from(self.kind())];
+        match *self {
+            Reply::Done { kind: granted } => row(&[&kind, &[granted]]),
+            Reply::Entries { count } => row(&[&kind, &count.to_be_bytes()]),
+            Reply::Circle {
+                weakest: first,
+                members: second,
+            }
+            | Reply::Core {
+                person: first,
+                number: second,
+            } => row(&[&kind, &first.to_be_bytes(), &second.to_be_bytes()]),
+            Reply::Member { person } | Reply::Holder { person } => {
+                row(&[&kind, &person.to_be_bytes()])
+            }
+            Reply::NoHolder => row(&[&kind]),
+            Reply::Refusal {
+                number,
+                layer,
+                line,
+            } => row(&[&kind, &[number, u8::from(layer)], &line.to_be_bytes()]),
         }
     }
 }
@@ -57,8 +176,8 @@ pub fn refusal(fault: FrameFault, line: u32) -> Reply
     ensures { result ≡ refusal_of fault line }
 {
     Reply::Refusal {
-        number: number_of(fault),
-        layer: layer_of(fault),
+        number: u8::from(fault),
+        layer: Layer::from(fault),
         line,
     }
 }

@@ -1,5 +1,5 @@
 -- The table is `table_length` counted out: antt computes both, entry by entry.
-use Rattle.std.proofs.Common.{◌<◌, arith, rules}
+use Rattle.std.proofs.Common.{◌<◌, ◌∙◌, arith, rules}
 use Rattle.std.proofs.lemmas.List.FromFn.{get_or-map-range_with_len}
 use Rattle.frames.specs.Kinds.{table_length}
 use Rattle.frames.proofs.kinds.table_length.Goals as goal
@@ -7,4 +7,5 @@ use Rattle.frames.proofs.kinds.table_length.Goals as goal
 pub returns : goal.returns
 returns c =
     let h : c.args.kind < 256 = search rules in
-    get_or-map-range_with_len table_length 0 256 c.args.kind c.args.kind 0 h (omega arith)
+    let e = c.from.ensures in
+    c.from-2.ensures ∙ get_or-map-range_with_len table_length 0 256 c.from.result c.args.kind 0 (omega arith) (omega arith)
