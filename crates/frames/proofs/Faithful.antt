@@ -38,7 +38,7 @@ read_passed fault meaning f g cs r a b e =
 
 -- the ways out behind the line: its kind, its length or its check byte is refused, or it is read
 module _ {X : Type 0} (known : ℕ → Bool) (long : ℕ → ℕ) (meaning : List ℕ → Option X) (bs : List ℕ) where
-  abbrev Answers : Result X FrameFault → Type 0
+  abbrev pub Answers : Result X FrameFault → Type 0
   Answers r = r ≡ answered (frame_fault (known (kind_in bs)) (long (kind_in bs)) bs) (meaning bs)
 
   pub kind_refused : (r : Result X FrameFault) → r ≡ Err UnknownKind → known (kind_in bs) ≡ false → Answers r
@@ -109,6 +109,10 @@ module _ {X : Type 0} (known : ℕ → Bool) (long : ℕ → ℕ) (meaning : Lis
 
     pub told : (cs : List ℕ) (r : Result X FrameFault) → r ≡ reading known long meaning cs → Told cs r
     told cs r e = record { answer = e; exact = subst (Exact In (λ q. line_of (framed (fields q))) cs) (sym e) (exact_of cs) }
+
+    -- .. once the line is read into the frame
+    pub told_passed : (f g : Frame) (cs : List ℕ) (r : Result X FrameFault) → Ok tt ≡ granted (line_fault cs) → g ≡ frame_after f cs → Answers known long meaning (held g) r → Told cs r
+    told_passed f g cs r a b e = told cs r (read_passed (λ bs. frame_fault (known (kind_in bs)) (long (kind_in bs)) bs) meaning f g cs r a b e)
 
   -- where the frame's refusals leave nothing unread, the answer tells the first of them all
   pub refusal_of_lem : ((bs : List ℕ) → known (kind_in bs) ≡ true → length bs ≡ long (kind_in bs) → is_some (meaning bs) ≡ true) → (cs : List ℕ)

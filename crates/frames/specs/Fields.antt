@@ -1,4 +1,4 @@
--- Fields of two and four bytes, read and written, and the front of a frame as its bytes. Assumes nothing.
+-- Fields of two and four bytes, read and written, and the front of a frame as its bytes: lemmas for the laws of messages. Assumes nothing.
 use Rattle.std.proofs.Common.{◌≡◌, ℕ, ◌+◌, ◌-◌, ◌*◌, ◌/◌, ◌%◌, ◌<◌, ◌≤◌, Bool, true, false, cond, eqb, ◌⊎◌, List, [], ◌∷◌, ◌++◌, map, length, get_or, take, drop, is_some, Some, Option, sym, refl, ap, ◌∙◌, subst, inl, inr, arith}
 use Rattle.std.specs.List.{range_with_len, AllByRecursion}
 use Rattle.std.proofs.lemmas.List.FromFn.{fill_by_all}
@@ -20,18 +20,6 @@ front bs n h = fill_by_all (λ i. get_or bs i 0) (take n bs) n 0 (length-take-le
 
 pub word_back : (n : ℕ) → n < 65536 → n / 256 % 256 * 256 + n % 256 ≡ n
 word_back n h = omega arith
-
-four_digits : (a b c d x y n : ℕ) → a * 256 + b ≡ y → y * 256 + c ≡ x → x * 256 + d ≡ n → a * 16777216 + b * 65536 + c * 256 + d ≡ n
-four_digits a b c d x y n e f g = omega arith
-
-pub long_back : (n : ℕ) → n < 4294967296 → number32 (n / 16777216 % 256) (n / 65536 % 256) (n / 256 % 256) (n % 256) ≡ n
-long_back n h = four_digits (n / 16777216 % 256) (n / 65536 % 256) (n / 256 % 256) (n % 256) (n / 256) (n / 65536) n (omega arith) (omega arith) (omega arith)
-
-pub word_bytes : (n : ℕ) → AllByRecursion Byte (bytes16 n)
-word_bytes n = (omega arith, (omega arith, tt))
-
-pub long_bytes : (n : ℕ) → AllByRecursion Byte (bytes32 n)
-long_bytes n = (omega arith, (omega arith, (omega arith, (omega arith, tt))))
 
 two_bytes : (a b : ℕ) → a < 256 → b < 256 → (a * 256 + b < 65536) × (bytes16 (a * 256 + b) ≡ a ∷ b ∷ [])
 two_bytes a b h l =

@@ -3,6 +3,8 @@
 --     table_length k              the length of kind k, 0 for no kind
 --     length_of size k            .. where a grade takes size bytes
 --     is_request k, is_reply k    the kinds that programs read, and those that they print
+--     request_number k            the number of the kind of request k; of a kind of reply, reply_number k
+--     KindRead number known b r   r is the kind of number b, or its refusal, where known says which numbers kinds have
 use Rattle.std.specs.Prelude.{◌≡◌, ℕ, ◌+◌, Bool, true, false, cond, Result, MatchResult, ◌&&◌, ◌||◌, List, [], ◌∷◌, ◌==◌, nat_le}
 use Rattle.frames.specs.declared.fault.FrameFault.{FrameFault}
 use Rattle.frames.specs.declared.fault.FrameFault.TheVariants.{UnknownKind}

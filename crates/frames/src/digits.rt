@@ -4,7 +4,7 @@ ghost use Rattle.frames.specs.Digits.{digit_of, letter_of};
 
 use crate::fault::LineFault;
 
-// The number that a digit stands for.
+// The number that a digit stands for: by cases of literals, since to_digit also takes small letters.
 pub(crate) fn digit(c: char) -> Result<u8, LineFault>
     ensures value { result ≡ digit_of c }
     ensures bound { IfOk result (λ d. d < 16) }

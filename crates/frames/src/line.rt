@@ -19,7 +19,7 @@ fn wrong_size(n: usize) -> bool
     n == 0 || n % 2 == 1 || n > 64
 }
 
-// A refused line leaves the frame as it was.
+// Fills a frame that is lent, and leaves it as it was where the line is refused.
 pub(crate) fn read_line(line: &[u8], frame: &mut Frame) -> Result<(), LineFault>
     ensures answer { result ≡ granted (line_fault line.now) }
     ensures after { frame.new ≡ frame_after frame.old line.now }
@@ -46,6 +46,7 @@ pub(crate) fn write_line(frame: &Frame) -> Line
 {
     let bytes = frame.contents();
     let mut text = [0u8; 64];
+    // By index: of what as_chunks_mut lends, nothing is known once it is written.
     for (i, b) in bytes.iter().enumerate() {
         text[2 * i] = letter(b / 16);
         text[2 * i + 1] = letter(*b);

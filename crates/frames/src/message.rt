@@ -21,6 +21,9 @@ pub(crate) trait Message: Sized {
 
     ghost long: { ℕ → ℕ };
 
+    // The number of a message's kind.
+    ghost kind_number: { Self → ℕ };
+
     // Kind and fields as bytes, and the message that stands in some bytes.
     ghost bytes: { Self → List ℕ };
 
@@ -33,7 +36,7 @@ pub(crate) trait Message: Sized {
         ensures { result ≡ long (number kind) };
 
     fn kind(&self) -> Self::Kind
-        ensures { number result ≡ kind_in (bytes self.now) };
+        ensures { number result ≡ kind_number self.now };
 
     // The message in a frame of that kind, with the length of its kind.
     fn read(kind: Self::Kind, frame: &Frame) -> Result<Self, FrameFault>
@@ -51,14 +54,16 @@ pub(crate) trait Message: Sized {
 
     ghost whole: { (m : Self) → Fits m → AllByRecursion Byte (bytes m) };
 
+    ghost first: { (m : Self) → kind_in (bytes m) ≡ kind_number m };
+
     ghost some: { (m : Self) → 0 < length (bytes m) };
 
     ghost room: { (m : Self) → length (bytes m) < 32 };
 
     // With the check byte it is as long as its kind.
-    ghost sized: { (m : Self) → length (bytes m) + 1 ≡ long (kind_in (bytes m)) };
+    ghost sized: { (m : Self) → length (bytes m) + 1 ≡ long (kind_number m) };
 
-    ghost numbered: { (m : Self) → known (kind_in (bytes m)) ≡ true };
+    ghost numbered: { (m : Self) → known (kind_number m) ≡ true };
 
     // What is written is read back, and what is read is what was written.
     ghost back: { (m : Self) → Fits m → meaning (framed (bytes m)) ≡ Some m };

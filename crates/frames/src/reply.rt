@@ -53,7 +53,7 @@ impl TryFrom<u8> for ReplyKind {
 
 #[derive(Clone, Copy, PartialEq, Eq, Debug)]
 pub enum Reply {
-    // the request of that kind is granted, and this is all
+    // the request of that kind is granted, and this is all; any byte may stand there, as any may be typed
     Done { kind: u8 },
     Entries { count: u32 },
     Circle { weakest: u16, members: u16 },
@@ -75,6 +75,8 @@ impl Message for Reply {
 
     ghost long = { table_length };
 
+    ghost kind_number = { reply_kind };
+
     ghost bytes = { reply_bytes };
 
     ghost meaning = { reply_of };
@@ -84,6 +86,8 @@ impl Message for Reply {
     ghost kinds = { Prim.search rules };
 
     ghost whole = { Prim.search rules };
+
+    ghost first = { Prim.search rules };
 
     ghost some = { Prim.search rules };
 

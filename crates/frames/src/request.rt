@@ -94,6 +94,8 @@ impl<G: Wire> Message for Request<G> {
 
     ghost long = { length_of G.WIDTH };
 
+    ghost kind_number = { request_kind };
+
     ghost bytes = { request_bytes G.Wire.bytes_of };
 
     ghost meaning = { request_of G.Wire.grade_of G.WIDTH };
@@ -103,6 +105,8 @@ impl<G: Wire> Message for Request<G> {
     ghost kinds = { Prim.search rules };
 
     ghost whole = { Prim.search rules };
+
+    ghost first = { Prim.search rules };
 
     ghost some = { Prim.search rules };
 

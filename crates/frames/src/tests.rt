@@ -26,89 +26,27 @@ fn refusal<G: Wire>(line: &str) -> Option<u8> {
 }
 
 // What a line is refused for, over points and over laurels.
-struct Row {
-    line: &'static str,
-    points: Option<u8>,
-    laurels: Option<u8>,
-}
-
-static ROWS: [Row; 14] = [
-    Row {
-        line: "",
-        points: Some(1),
-        laurels: Some(1),
-    },
-    Row {
-        line: "0",
-        points: Some(1),
-        laurels: Some(1),
-    },
-    Row {
-        line: "G",
-        points: Some(1),
-        laurels: Some(1),
-    },
-    Row {
-        line: "GG",
-        points: Some(2),
-        laurels: Some(2),
-    },
-    Row {
-        line: "010002fd",
-        points: Some(2),
-        laurels: Some(2),
-    },
-    Row {
-        line: "0100 2FD",
-        points: Some(2),
-        laurels: Some(2),
-    },
-    Row {
-        line: "00",
-        points: Some(3),
-        laurels: Some(3),
-    },
-    Row {
-        line: "0A",
-        points: Some(3),
-        laurels: Some(3),
-    },
-    Row {
-        line: "80017F",
-        points: Some(3),
-        laurels: Some(3),
-    },
-    Row {
-        line: "0100",
-        points: Some(4),
-        laurels: Some(4),
-    },
-    Row {
-        line: "01000200FD",
-        points: Some(4),
-        laurels: Some(4),
-    },
-    Row {
-        line: "010002FE",
-        points: Some(5),
-        laurels: Some(5),
-    },
-    Row {
-        line: "02000100000009F4",
-        points: None,
-        laurels: Some(4),
-    },
-    Row {
-        line: "0200010300000009F1",
-        points: Some(4),
-        laurels: None,
-    },
+static ROWS: [(&str, Option<u8>, Option<u8>); 14] = [
+    ("", Some(1), Some(1)),
+    ("0", Some(1), Some(1)),
+    ("G", Some(1), Some(1)),
+    ("GG", Some(2), Some(2)),
+    ("010002fd", Some(2), Some(2)),
+    ("0100 2FD", Some(2), Some(2)),
+    ("00", Some(3), Some(3)),
+    ("0A", Some(3), Some(3)),
+    ("80017F", Some(3), Some(3)),
+    ("0100", Some(4), Some(4)),
+    ("01000200FD", Some(4), Some(4)),
+    ("010002FE", Some(5), Some(5)),
+    ("02000100000009F4", None, Some(4)),
+    ("0200010300000009F1", Some(4), None),
 ];
 
 #[test]
 fn first_refusals_are_told(rt: HostRuntime) {
-    for row in ROWS.iter() {
-        assert_eq!(rt; refusal::<Points>(row.line), row.points);
-        assert_eq!(rt; refusal::<Laurels>(row.line), row.laurels);
+    for (line, points, laurels) in ROWS {
+        assert_eq!(rt; refusal::<Points>(line), points);
+        assert_eq!(rt; refusal::<Laurels>(line), laurels);
     }
 }
