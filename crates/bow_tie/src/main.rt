@@ -1,9 +1,6 @@
 // Opens the bow tie network, links it, tries refused changes, and shows who is linked to whom, with core numbers.
 #![tactic(auto)]
 
-mod change;
-
-use change::Change;
 use faults::CallFault;
 use grades::Points;
 use matrix::{BitMatrix, MatrixMemory};
@@ -14,14 +11,6 @@ use std::fmt::Display;
 const POINTS: [i32; 5] = [10, 30, 20, 50, 40];
 
 const LINKS: [(usize, usize); 6] = [(0, 1), (0, 2), (1, 2), (2, 3), (2, 4), (3, 4)];
-
-const REFUSED: [Change; 5] = [
-    Change::Link(0, 5),
-    Change::Link(3, 3),
-    Change::Link(4, 3),
-    Change::Unlink(0, 4),
-    Change::Regrade(7, 1),
-];
 
 // One line a person: number, points, degree, neighbours.
 fn show(rt: &impl Print, net: &impl Network<Grade = Points>) -> anyhow::Result<()> {
@@ -40,11 +29,8 @@ fn show(rt: &impl Print, net: &impl Network<Grade = Points>) -> anyhow::Result<(
 
 fn show_cores(rt: &impl Print, net: &impl Network<Grade = Points>) -> anyhow::Result<()> {
     let mut row = [0; 5];
-    tell(
-        rt,
-        &"core numbers",
-        cores::cores(net, &mut [0; 40], &mut row),
-    )?;
+    let answer = cores::cores(net, &mut [0; 40], &mut row);
+    tell(rt, &"core numbers", answer)?;
     for (u, core) in row.iter().enumerate() {
         println!(rt; "person {u}: {core}")?;
     }
@@ -60,31 +46,29 @@ fn tell(rt: &impl Print, call: &impl Display, answer: Result<(), CallFault>) -> 
     Ok(())
 }
 
-fn attempt(
+fn link_all(
     rt: &impl Print,
-    net: &mut impl Changing<Grade = Points>,
-    change: Change,
+    net: &mut impl Changing,
+    pairs: &[(usize, usize)],
 ) -> anyhow::Result<()> {
-    let answer = change.apply_to(net);
-    tell(rt, &change, answer)
-}
-
-fn check(rt: &impl Print, n: usize, memory: &MatrixMemory<Points>) -> anyhow::Result<()> {
-    tell(
-        rt,
-        &format_args!("opening for {n} persons"),
-        BitMatrix::check(n, memory),
-    )
+    for &(u, v) in pairs {
+        tell(rt, &format_args!("link {u}-{v}"), net.link(u, v))?;
+    }
+    Ok(())
 }
 
 fn tie(rt: &impl Print, net: &mut impl Changing<Grade = Points>) -> anyhow::Result<()> {
     for (u, points) in POINTS.into_iter().enumerate() {
-        attempt(rt, net, Change::Regrade(u, points))?;
+        let answer = net.regrade(u, Points(points));
+        tell(rt, &format_args!("regrade {u} to {points}"), answer)?;
     }
-    for (u, v) in LINKS {
-        attempt(rt, net, Change::Link(u, v))?;
-    }
-    Ok(())
+    link_all(rt, net, &LINKS)
+}
+
+fn refuse(rt: &impl Print, net: &mut impl Changing<Grade = Points>) -> anyhow::Result<()> {
+    link_all(rt, net, &[(0, 5), (3, 3), (4, 3)])?;
+    tell(rt, &"unlink 0-4", net.unlink(0, 4))?;
+    tell(rt, &"regrade 7 to 1", net.regrade(7, Points(1)))
 }
 
 // Rows with a place for one link each.
@@ -103,8 +87,7 @@ fn fill_rows(rt: &HostRuntime) -> anyhow::Result<()> {
     );
     let ceiling = net.ceiling();
     println!(rt; "three persons in rows, at most {ceiling} link each")?;
-    attempt(rt, &mut net, Change::Link(0, 1))?;
-    attempt(rt, &mut net, Change::Link(0, 2))?;
+    link_all(rt, &mut net, &[(0, 1), (0, 2)])?;
     show(rt, &net)
 }
 
@@ -112,16 +95,16 @@ fn run(rt: &HostRuntime) -> anyhow::Result<()> {
     let bits = vec![in rt.alloc(); 0u8; 5]?;
     let grades = vec![in rt.alloc(); Points(0); 5]?;
     let memory = MatrixMemory { bits, grades };
-    check(rt, 6, &memory)?;
-    check(rt, 5, &memory)?;
+    for n in [6, 5] {
+        let answer = BitMatrix::check(n, &memory);
+        tell(rt, &format_args!("opening for {n} persons"), answer)?;
+    }
     let mut net = BitMatrix::open(5, memory);
     tie(rt, &mut net)?;
     show(rt, &net)?;
     show_cores(rt, &net)?;
-    for refused in REFUSED {
-        attempt(rt, &mut net, refused)?;
-    }
-    attempt(rt, &mut net, Change::Unlink(3, 4))?;
+    refuse(rt, &mut net)?;
+    tell(rt, &"unlink 3-4", net.unlink(3, 4))?;
     show(rt, &net)?;
     show_cores(rt, &net)?;
     fill_rows(rt)

@@ -8,4 +8,4 @@ pub mod query;
 
 pub use choice::Choice;
 pub use head::Head;
-pub use query::Query;
+pub use query::{MOST_CIRCLES, MOST_LINKS, Query};
