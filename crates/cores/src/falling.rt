@@ -64,7 +64,7 @@ impl<'a> Cascade<'a> {
         requires { Fits (N.Network.meaning net.now).persons mark (lanes_of self.old) self.old.near.now }
         ensures same { SameLanes self.old self.new }
         ensures fits { Fits (N.Network.meaning net.now).persons mark (lanes_of self.new) self.new.near.now }
-        ensures falling { Ready (graph_of (N.Network.meaning net.now)) (lanes_of self.old) → Falling (graph_of (N.Network.meaning net.now)) k (N.Network.meaning net.now).persons mark (alive self.old.fell.now) (lanes_of self.old) (lanes_of self.new) self.old.tail [] }
+        ensures falling { let g = graph_of (N.Network.meaning net.now) in let old = lanes_of self.old in Ready g old → Falling g k g.size mark (alive old.fell) old (lanes_of self.new) old.tail [] }
     {
         // by index: a fall writes the lanes that the loop reads
         for u in 0..self.fell.len() {
@@ -75,12 +75,11 @@ impl<'a> Cascade<'a> {
     }
 
     // All whom the falls from `head` on leave with a degree below k fall too.
-    pub(crate) fn follow<N: Network>(&mut self, net: &N, k: u32, mark: u32, head: usize)
+    pub(crate) fn follow<N: Network>(&mut self, net: &N, k: u32, mark: u32, mut head: usize)
         requires { Fits (N.Network.meaning net.now).persons mark (lanes_of self.old) self.old.near.now }
         ensures same { SameLanes self.old self.new }
-        ensures fallen { (X : Set) (old : Lanes) → Falling (graph_of (N.Network.meaning net.now)) k (N.Network.meaning net.now).persons mark X old (lanes_of self.old) head [] → (alive self.new.fell.now ≡ core (graph_of (N.Network.meaning net.now)) k X) × Fallen (graph_of (N.Network.meaning net.now)) k mark old (lanes_of self.new) }
+        ensures fallen { let g = graph_of (N.Network.meaning net.now) in (X : Set) (old : Lanes) → Falling g k g.size mark X old (lanes_of self.old) head [] → (alive self.new.fell.now ≡ core g k X) × Fallen g k mark old (lanes_of self.new) }
     {
-        let mut head = head;
         // by index: the order grows while it is read
         while head < self.tail {
             let u = self.order[head] as usize;

@@ -25,17 +25,20 @@ impl<'a> Cascade<'a> {
         ensures { result ≡ fitting (N.Network.meaning net.now).persons mark (lanes_of self.now) self.now.near.now }
     {
         let n = net.persons();
-        (mark > 0 && self.tail <= n)
-            && ((self.fell.len() == n && self.degree.len() == n)
-                && (self.order.len() == n && self.near.len() == n))
+        mark > 0
+            && self.tail <= n
+            && self.fell.len() == n
+            && self.degree.len() == n
+            && self.order.len() == n
+            && self.near.len() == n
     }
 
     // Everyone stands, with all their links.
     pub fn raise<N: Network>(&mut self, net: &N)
         ensures same { SameLanes self.old self.new }
         ensures rest { (self.new.order.now ≡ self.old.order.now) × (self.new.tail ≡ self.old.tail) × (self.new.near.now ≡ self.old.near.now) }
-        ensures unfit { (length self.old.fell.now == (N.Network.meaning net.now).persons && length self.old.degree.now == (N.Network.meaning net.now).persons) ≡ false → (self.new.fell.now ≡ self.old.fell.now) × (self.new.degree.now ≡ self.old.degree.now) }
-        ensures raised { (length self.old.fell.now == (N.Network.meaning net.now).persons && length self.old.degree.now == (N.Network.meaning net.now).persons) ≡ true → (alive self.new.fell.now ≡ everyone (graph_of (N.Network.meaning net.now))) × Counted (graph_of (N.Network.meaning net.now)) self.new.fell.now self.new.degree.now }
+        ensures unfit { let n = (N.Network.meaning net.now).persons in (length self.old.fell.now == n && length self.old.degree.now == n) ≡ false → (self.new.fell.now ≡ self.old.fell.now) × (self.new.degree.now ≡ self.old.degree.now) }
+        ensures raised { let g = graph_of (N.Network.meaning net.now) in (length self.old.fell.now == g.size && length self.old.degree.now == g.size) ≡ true → (alive self.new.fell.now ≡ everyone g) × Counted g self.new.fell.now self.new.degree.now }
     {
         let n = net.persons();
         if self.fell.len() == n && self.degree.len() == n {
@@ -49,8 +52,8 @@ impl<'a> Cascade<'a> {
     // The k-core of those who stand is left.
     pub fn shrink<N: Network>(&mut self, net: &N, k: u32, mark: u32)
         ensures same { SameLanes self.old self.new }
-        ensures unfit { fitting (N.Network.meaning net.now).persons mark (lanes_of self.old) self.old.near.now ≡ false → (lanes_of self.new ≡ lanes_of self.old) × (self.new.near.now ≡ self.old.near.now) }
-        ensures fallen { fitting (N.Network.meaning net.now).persons mark (lanes_of self.old) self.old.near.now ≡ true → Ready (graph_of (N.Network.meaning net.now)) (lanes_of self.old) → (alive self.new.fell.now ≡ core (graph_of (N.Network.meaning net.now)) k (alive self.old.fell.now)) × Fallen (graph_of (N.Network.meaning net.now)) k mark (lanes_of self.old) (lanes_of self.new) }
+        ensures unfit { let old = lanes_of self.old in fitting (N.Network.meaning net.now).persons mark old self.old.near.now ≡ false → (lanes_of self.new ≡ old) × (self.new.near.now ≡ self.old.near.now) }
+        ensures fallen { let g = graph_of (N.Network.meaning net.now) in let old = lanes_of self.old in let new = lanes_of self.new in fitting g.size mark old self.old.near.now ≡ true → Ready g old → (alive new.fell ≡ core g k (alive old.fell)) × Fallen g k mark old new }
     {
         if self.fits(net, mark) {
             let head = self.tail;
@@ -62,8 +65,8 @@ impl<'a> Cascade<'a> {
     // Where everyone who stands has degree k at least: w falls, and all who cannot stand without.
     pub fn take_out<N: Network>(&mut self, net: &N, w: usize, k: u32, mark: u32)
         ensures same { SameLanes self.old self.new }
-        ensures unfit { fitting (N.Network.meaning net.now).persons mark (lanes_of self.old) self.old.near.now ≡ false → (lanes_of self.new ≡ lanes_of self.old) × (self.new.near.now ≡ self.old.near.now) }
-        ensures fallen { fitting (N.Network.meaning net.now).persons mark (lanes_of self.old) self.old.near.now ≡ true → Ready (graph_of (N.Network.meaning net.now)) (lanes_of self.old) → ((v : ℕ) → v ∈ alive self.old.fell.now → k ≤ slice_index self.old.degree.now v) → (alive self.new.fell.now ≡ core (graph_of (N.Network.meaning net.now)) k (without (alive self.old.fell.now) w)) × Fallen (graph_of (N.Network.meaning net.now)) k mark (lanes_of self.old) (lanes_of self.new) }
+        ensures unfit { let old = lanes_of self.old in fitting (N.Network.meaning net.now).persons mark old self.old.near.now ≡ false → (lanes_of self.new ≡ old) × (self.new.near.now ≡ self.old.near.now) }
+        ensures fallen { let g = graph_of (N.Network.meaning net.now) in let old = lanes_of self.old in let new = lanes_of self.new in fitting g.size mark old self.old.near.now ≡ true → Ready g old → ((v : ℕ) → v ∈ alive old.fell → k ≤ slice_index old.degrees v) → (alive new.fell ≡ core g k (without (alive old.fell) w)) × Fallen g k mark old new }
     {
         if self.fits(net, mark) && w < self.fell.len() && self.fell[w] == 0 {
             let first = self.tail;
