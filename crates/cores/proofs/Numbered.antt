@@ -23,28 +23,22 @@ use Rattle.cores.proofs.Alive.{alive_past}
 use Rattle.cores.proofs.Fitting.{fits_when}
 
 pub noted_yes : (S : Set) (k v : ℕ) (old new : List ℕ) → v < length new → v ∈ S → Noted S k v old new → Noted S k (v + 1) old (set new v k)
-noted_yes S k v old new l m n = record { written = λ u i s. go u i s (cases_eq u v); others = λ u h. ot u h (cases_eq u v) }
+noted_yes S k v old new l m n =
+    record {
+      written = λ u i s. elim (cases_eq u v) [ inl e ↦ rw e (get_or-set_same new v k 0 l) | inr d ↦ get_or-set_other new v u k 0 d ∙ n.written u (omega arith) s ];
+      others = λ u h. let d : u ≡ v → ⊥ = λ e. out u h e in get_or-set_other new v u k 0 d ∙ n.others u (elim h [ inl p ↦ inl (omega arith) | inr p ↦ inr p ]);
+    }
   where
-    go : (u : ℕ) → u < v + 1 → u ∈ S → (u ≡ v) ⊎ (u ≡ v → ⊥) → get_or (set new v k) u 0 ≡ k
-    go u i s (inl e) = rw e (get_or-set_same new v k 0 l)
-    go u i s (inr d) = get_or-set_other new v u k 0 d ∙ n.written u (omega arith) s
-
-    ot : (u : ℕ) → (v + 1 ≤ u) ⊎ (S u ≡ false) → (u ≡ v) ⊎ (u ≡ v → ⊥) → get_or (set new v k) u 0 ≡ get_or old u 0
-    ot u (inl h) (inl e) = absurd (omega arith)
-    ot u (inr h) (inl e) = absurd (both_ways (S v) (rw e at h) m)
-    ot u (inl h) (inr d) = get_or-set_other new v u k 0 d ∙ n.others u (inl (omega arith))
-    ot u (inr h) (inr d) = get_or-set_other new v u k 0 d ∙ n.others u (inr h)
+    out : (u : ℕ) → (v + 1 ≤ u) ⊎ (S u ≡ false) → u ≡ v → ⊥
+    out u (inl h) e = omega arith
+    out u (inr h) e = both_ways (S v) (rw e at h) m
 
 pub noted_no : (S : Set) (k v : ℕ) (old new : List ℕ) → S v ≡ false → Noted S k v old new → Noted S k (v + 1) old new
-noted_no S k v old new f n = record { written = λ u i s. n.written u (lt u s i (cases_eq u v)) s; others = ot }
-  where
-    lt : (u : ℕ) → u ∈ S → u < v + 1 → (u ≡ v) ⊎ (u ≡ v → ⊥) → u < v
-    lt u s i (inl e) = absurd (both_ways (S v) f (rw e at s))
-    lt u s i (inr d) = omega arith
-
-    ot : (u : ℕ) → (v + 1 ≤ u) ⊎ (S u ≡ false) → get_or new u 0 ≡ get_or old u 0
-    ot u (inl h) = n.others u (inl (omega arith))
-    ot u (inr h) = n.others u (inr h)
+noted_no S k v old new f n =
+    record {
+      written = λ u i s. elim (cases_eq u v) [ inl e ↦ absurd (both_ways (S v) f (rw e at s)) | inr d ↦ n.written u (omega arith) s ];
+      others = λ u h. n.others u (elim h [ inl p ↦ inl (omega arith) | inr p ↦ inr p ]);
+    }
 
 -- ---- one k after another
 

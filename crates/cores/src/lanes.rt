@@ -8,9 +8,10 @@ ghost use Rattle.cores.specs.Lent.{lanes_of, SameLanes};
 
 use networks::Network;
 
-// A place in each lane for each person. `fell` holds 0 for who stands, and else a mark: callers lend all lanes from one row of numbers.
+// Lanes of numbers that a caller lends, with a place for each person.
 #[derive(Drop)]
 pub struct Cascade<'a> {
+    // 0 for who stands, else the mark with which they fell: a number, since one row of numbers is lent for all lanes
     pub fell: &'a mut [u32],
     pub degree: &'a mut [u32],
     // those who fell, in the order in which they fell, as many as `tail`

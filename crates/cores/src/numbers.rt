@@ -30,9 +30,9 @@ impl<'a> Cascade<'a> {
 }
 
 // The core numbers, into the first places of the row.
-fn number_all<N: Network>(net: &N, cascade: &mut Cascade, row: &mut [u32])
-    requires lanes { Fits (N.Network.meaning net.now).persons 1 (lanes_of cascade.old) cascade.old.near.now }
-    requires start { cascade.old.tail ≡ 0 }
+fn number_all<N: Network>(net: &N, mut cascade: Cascade, row: &mut [u32])
+    requires lanes { Fits (N.Network.meaning net.now).persons 1 (lanes_of cascade) cascade.near.now }
+    requires start { cascade.tail ≡ 0 }
     requires places { (N.Network.meaning net.now).persons ≤ length row.old }
     ensures numbers { (v : ℕ) → v < (N.Network.meaning net.now).persons → slice_index row.new v ≡ core_number (graph_of (N.Network.meaning net.now)) v }
     ensures rest { (v : ℕ) → (N.Network.meaning net.now).persons ≤ v → slice_index row.new v ≡ slice_index row.old v }
@@ -64,13 +64,13 @@ pub fn cores<N: Network>(net: &N, scratch: &mut [u32], row: &mut [u32]) -> Resul
     let (degree, rest) = rest.split_at_mut(n);
     let (order, rest) = rest.split_at_mut(n);
     let (near, _) = rest.split_at_mut(n);
-    let mut cascade = Cascade {
+    let cascade = Cascade {
         fell,
         degree,
         order,
         tail: 0,
         near,
     };
-    number_all(net, &mut cascade, row);
+    number_all(net, cascade, row);
     Ok(())
 }
