@@ -11,7 +11,7 @@ use Rattle.theory.proofs.Counting.{count_split}
 use Rattle.theory.proofs.Loops.{degree_falls_by_one}
 use Rattle.theory.proofs.Sets.{without_from}
 use Rattle.cores.specs.Falling.{Owed, Queued, pushed, lowered}
-use Rattle.cores.specs.Lanes.{Lanes, alive, Ready}
+use Rattle.cores.specs.Lanes.{Lanes, lanes, alive, Ready}
 use Rattle.cores.proofs.Alive.{alive_set, alive_within, marked_set}
 use Rattle.cores.proofs.Near.{head_other, head_same, neighbours_count, front_splits}
 
@@ -60,6 +60,12 @@ push_listed fell order mark tail x v p t a =
     let now : bit (alive (set fell x mark) v) ≡ bit (without (alive fell) x v) = ap (λ S. bit (S v)) e in
     omega (arith, more, now, bit_without (alive fell) x v a)
 
+-- nobody falls: what the degrees owe is all that changes
+queue_owes : (g : Graph) (mark : ℕ) (old l : Lanes) (head head' : ℕ) (degrees rest rest' : List ℕ) → Owed g (lanes l.fell degrees l.order l.tail) head' rest' → head ≤ head' → head' ≤ l.tail → Queued g mark old l head rest →
+    Queued g mark old (lanes l.fell degrees l.order l.tail) head' rest'
+queue_owes g mark old l head head' degrees rest rest' owed a b q =
+    record { owed = owed; few = q.few; room = q.room; marked = q.marked; kept = q.kept; listed = q.listed; later = omega (arith, q.later); queued = b }
+
 module _ (g : Graph) (mark : ℕ) (old l : Lanes) (head x : ℕ) (rest : List ℕ) where
   -- who stands has a place in the order
   pub queue_place : length l.fell ≡ g.size → x ∈ alive l.fell → Queued g mark old l head rest → l.tail < g.size
@@ -85,22 +91,11 @@ module _ (g : Graph) (mark : ℕ) (old l : Lanes) (head x : ℕ) (rest : List �
 
   -- a neighbour that has fallen already
   pub queue_skip : alive l.fell x ≡ false → Queued g mark old l head (x ∷ rest) → Queued g mark old l head rest
-  queue_skip n q =
-      record {
-        owed = λ v m. omega (arith, q.owed v m, head_other v x rest (λ e. both_ways (alive l.fell x) n (rw e at m)));
-        few = q.few;
-        room = q.room;
-        marked = q.marked;
-        kept = q.kept;
-        listed = q.listed;
-        later = q.later;
-        queued = q.queued;
-      }
+  queue_skip n q = queue_owes g mark old l head head l.degrees (x ∷ rest) rest (λ v m. omega (arith, q.owed v m, head_other v x rest (λ e. both_ways (alive l.fell x) n (rw e at m)))) (omega arith) q.queued q
 
   -- a neighbour that stands has one less
   pub queue_lower : x < length l.degrees → x ∈ alive l.fell → Queued g mark old l head (x ∷ rest) → Queued g mark old (lowered x l) head rest
-  queue_lower i a q =
-      record { owed = λ v m. go v m (cases_eq v x); few = q.few; room = q.room; marked = q.marked; kept = q.kept; listed = q.listed; later = q.later; queued = q.queued }
+  queue_lower i a q = queue_owes g mark old l head head (set l.degrees x (get_or l.degrees x 0 - 1)) (x ∷ rest) rest (λ v m. go v m (cases_eq v x)) (omega arith) q.queued q
     where
       go : (v : ℕ) → v ∈ alive l.fell → (v ≡ x) ⊎ (v ≡ x → ⊥) → get_or (set l.degrees x (get_or l.degrees x 0 - 1)) v 0 + count_by (g.linked v) (take head l.order) ≡ degree g (alive l.fell) v + count_by (g.linked v) (take l.tail l.order) + count_by (eqb v) rest
       go v m (inl e) = rw e (omega (arith, get_or-set_same l.degrees x (get_or l.degrees x 0 - 1) 0 i, q.owed x a, head_same x rest, front_splits (g.linked x) head l.tail l.order q.queued))
@@ -117,8 +112,7 @@ queue_starts g mark l r =
 -- whoever is taken off the queue is to be taken off the degrees of the neighbours
 pub queue_pop : {G : Type 0} (net : Net G) → Sound net → (mark : ℕ) (old l : Lanes) (head : ℕ) → length l.fell ≡ net.persons → length l.order ≡ net.persons → head < l.tail →
     Queued (graph_of net) mark old l head [] → Queued (graph_of net) mark old l (head + 1) (neighbours net (get_or l.order head 0))
-queue_pop net s mark old l head lf lo h q =
-    record { owed = λ v m. go v m (alive_within l.fell v m); few = q.few; room = q.room; marked = q.marked; kept = q.kept; listed = q.listed; later = omega (arith, q.later); queued = omega arith }
+queue_pop net s mark old l head lf lo h q = queue_owes (graph_of net) mark old l head (head + 1) l.degrees [] _ (λ v m. go v m (alive_within l.fell v m)) (omega arith) (omega arith) q
   where
     go : (v : ℕ) → v ∈ alive l.fell → v < length l.fell → get_or l.degrees v 0 + count_by (net.linked v) (take (head + 1) l.order) ≡ degree (graph_of net) (alive l.fell) v + count_by (net.linked v) (take l.tail l.order) + count_by (eqb v) (neighbours net (get_or l.order head 0))
     go v m i =
