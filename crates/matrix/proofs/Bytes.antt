@@ -1,12 +1,40 @@
 -- The bits of a number that is made of bytes, and the list of those that are set. Assumes nothing.
-use Rattle.std.proofs.Common.{◌≡◌, ℕ, zero, suc, ◌+◌, ◌-◌, ◌*◌, ◌/◌, ◌%◌, ◌^◌, ◌<◌, ◌≤◌, Bool, false, cond, eqb, List, [], ◌∷◌, get_or, filter, sym, refl, ap, ◌∙◌, ap₂, inl, inr, arith, pow_pos}
+use Rattle.std.proofs.Common.{◌≡◌, ℕ, zero, suc, ◌+◌, ◌-◌, ◌*◌, ◌/◌, ◌%◌, ◌^◌, ◌<◌, ◌≤◌, Bool, false, cond, eqb, List, [], ◌∷◌, ◌++◌, length, get_or, take, drop, filter, sym, refl, ap, ◌∙◌, ap₂, inl, inr, arith, pow_pos}
 use native.Mathlib.Nat.{div-eq_of_lt}
-use Rattle.std.specs.List.{range_with_len, AllByRecursion}
+use Rattle.std.specs.List.{range_with_len}
 use Rattle.std.proofs.lemmas.Nat.{shr-shr}
+use Rattle.std.proofs.lemmas.List.{append-nil, take_all}
 use Rattle.std.proofs.lemmas.Bool.{cases_lt}
-use Rattle.grades.specs.Places.{Byte}
 use Rattle.matrix.specs.Bits.{bit_of}
-use Rattle.matrix.specs.Words.{word_of, set_bits}
+use Rattle.matrix.specs.Words.{set_bits}
+
+-- the number of some bytes, the low byte first
+abbrev pub word_of : List ℕ → ℕ
+word_of [] = 0
+word_of (b ∷ bs) = b + 256 * word_of bs
+
+-- the number of eight bytes, as it is read
+abbrev pub sum_of : List ℕ → ℕ
+sum_of bs =
+    get_or bs 0 0 + get_or bs 1 0 * 256 + get_or bs 2 0 * 65536 + get_or bs 3 0 * 16777216 + get_or bs 4 0 * 4294967296 + get_or bs 5 0 * 1099511627776 + get_or bs 6 0 * 281474976710656 + get_or bs 7 0 * 72057594037927936
+
+abbrev pub padded : List ℕ → List ℕ
+padded bs = bs ++ drop (length bs) (0 ∷ 0 ∷ 0 ∷ 0 ∷ 0 ∷ 0 ∷ 0 ∷ 0 ∷ [])
+
+pub padded_word : (bs : List ℕ) → length bs ≤ 8 → sum_of (padded bs) ≡ word_of bs
+padded_word [] l = omega arith
+padded_word (a ∷ []) l = omega arith
+padded_word (a ∷ b ∷ []) l = omega arith
+padded_word (a ∷ b ∷ c ∷ []) l = omega arith
+padded_word (a ∷ b ∷ c ∷ d ∷ []) l = omega arith
+padded_word (a ∷ b ∷ c ∷ d ∷ e ∷ []) l = omega arith
+padded_word (a ∷ b ∷ c ∷ d ∷ e ∷ f ∷ []) l = omega arith
+padded_word (a ∷ b ∷ c ∷ d ∷ e ∷ f ∷ g ∷ []) l = omega arith
+padded_word (a ∷ b ∷ c ∷ d ∷ e ∷ f ∷ g ∷ h ∷ []) l = omega arith
+padded_word (a ∷ b ∷ c ∷ d ∷ e ∷ f ∷ g ∷ i ∷ x ∷ xs) l = absurd (omega arith)
+
+pub whole_padded : (bs eight : List ℕ) → length bs ≡ 8 → eight ≡ take 8 bs → eight ≡ padded bs
+whole_padded bs eight h e = e ∙ take_all 8 bs (omega arith) ∙ sym (ap (λ k. bs ++ drop k (0 ∷ 0 ∷ 0 ∷ 0 ∷ 0 ∷ 0 ∷ 0 ∷ 0 ∷ [])) h ∙ append-nil bs)
 
 pub no_bit : (k : ℕ) → bit_of 0 k ≡ false
 no_bit k = ap (λ t. eqb (t % 2) 1) (div-eq_of_lt (pow_pos k))
@@ -30,17 +58,17 @@ high_bit b x j h l =
     let d : (b + 256 * x) / 2 ^ 8 ≡ x = omega arith in
     ap (λ t. eqb (t % 2) 1) (ap (λ t. (b + 256 * x) / 2 ^ t) e ∙ sym (shr-shr (b + 256 * x) 8 (j - 8)) ∙ ap (λ t. t / 2 ^ (j - 8)) d)
 
-pub word_bit : (bs : List ℕ) (j : ℕ) → AllByRecursion Byte bs → bit_of (word_of bs) j ≡ bit_of (get_or bs (j / 8) 0) (j % 8)
+pub word_bit : (bs : List ℕ) (j : ℕ) → ((k : ℕ) → get_or bs k 0 < 256) → bit_of (word_of bs) j ≡ bit_of (get_or bs (j / 8) 0) (j % 8)
 word_bit [] j h = no_bit j ∙ sym (no_bit (j % 8))
 word_bit (b ∷ bs) j h = elim (cases_lt j 8) [
   | inl l ↦ (
       let q : 0 ≡ j / 8 = omega arith in
       let r : j ≡ j % 8 = omega arith in
-      low_bit b (word_of bs) j h.0 l ∙ ap₂ (λ i k. bit_of (get_or (b ∷ bs) i 0) k) q r)
+      low_bit b (word_of bs) j (h 0) l ∙ ap₂ (λ i k. bit_of (get_or (b ∷ bs) i 0) k) q r)
   | inr l ↦ (
       let q : suc ((j - 8) / 8) ≡ j / 8 = omega arith in
       let r : (j - 8) % 8 ≡ j % 8 = omega arith in
-      high_bit b (word_of bs) j h.0 l ∙ word_bit bs (j - 8) h.1 ∙ ap₂ (λ i k. bit_of (get_or (b ∷ bs) i 0) k) q r)
+      high_bit b (word_of bs) j (h 0) l ∙ word_bit bs (j - 8) (λ k. h (suc k)) ∙ ap₂ (λ i k. bit_of (get_or (b ∷ bs) i 0) k) q r)
 ]
 
 -- the next bit is the first of half the number

@@ -1,8 +1,9 @@
 -- The set bits of a word, one at a time from the lowest. Assumes nothing.
-use Rattle.std.proofs.Common.{◌≡◌, ℕ, zero, suc, ◌+◌, ◌-◌, ◌*◌, ◌/◌, ◌%◌, ◌^◌, ◌<◌, ◌≤◌, cond, eqb, [], ◌∷◌, length, sym, refl, ap, ◌∙◌, ap₂, inl, inr, pow-suc, arith}
+use Rattle.std.proofs.Common.{◌≡◌, ℕ, zero, suc, ◌+◌, ◌-◌, ◌*◌, ◌/◌, ◌%◌, ◌^◌, ◌<◌, ◌≤◌, cond, eqb, [], ◌∷◌, length, get_or, drop, sym, refl, ap, ◌∙◌, ap₂, inl, inr, pow-suc, arith}
 use lib.Bits.{bit_and, and_step, and_self}
-use lib.Count.{count_trailing_zeros, under}
+use lib.Count.{count_trailing_zeros, ones, ones_step, ones-le, under}
 use Rattle.std.proofs.lemmas.Bool.{cases_eq}
+use Rattle.std.proofs.lemmas.List.{drop_more, length-drop}
 use Rattle.matrix.specs.Words.{set_bits}
 
 -- without its lowest set bit, by the parity of the word
@@ -66,10 +67,32 @@ unfolding set_bits
 no_bits zero from = refl
 no_bits (suc m) from = no_bits m (from + 1)
 
-pub bits_few : (m from w : ℕ) → length (set_bits m from w) ≤ m
-unfolding set_bits
-bits_few zero from w = omega arith
-bits_few (suc m) from w = elim (cases_eq (w % 2) 1) [
-  | inl odd ↦ omega (arith, ap length (set_odd m from w odd), bits_few m (from + 1) (w / 2))
-  | inr ne ↦ (let even : w % 2 ≡ 0 = omega arith in omega (arith, ap length (set_even m from w even), bits_few m (from + 1) (w / 2)))
-]
+-- how many they are
+pub ones_set : (m from w : ℕ) → w < 2 ^ m → ones w ≡ length (set_bits m from w)
+unfolding set_bits ones
+ones_set zero from w h = let none : w ≡ 0 = omega arith in ap ones none
+ones_set (suc m) from w h =
+    let small : w / 2 < 2 ^ m = omega (arith, pow-suc 2 m) in
+    let rest = ones_set m (from + 1) (w / 2) small in
+    let here = ones_step w in
+    elim (cases_eq (w % 2) 1) [
+      | inl odd ↦ omega (arith, ap length (set_odd m from w odd))
+      | inr ne ↦ (let even : w % 2 ≡ 0 = omega arith in omega (arith, ap length (set_even m from w even)))
+    ]
+
+pub bits_few : (from w : ℕ) → w < 2 ^ 64 → length (set_bits 64 from w) ≤ 64
+bits_few from w h = omega (arith, ones_set 64 from w h, ones-le 64 w h)
+
+-- a word of which the bits from the place i on are left: it is not 0, its lowest is the one there, and without it those behind are left
+pub left_some : (from w left i : ℕ) → w < 2 ^ 64 → i < ones w → set_bits 64 from left ≡ drop i (set_bits 64 from w) → 0 < left
+left_some from w zero i h l e = omega (arith, ones_set 64 from w h, ap length (sym e ∙ no_bits 64 from), length-drop i (set_bits 64 from w))
+left_some from w (suc left) i h l e = omega arith
+
+pub left_next : (from w left i : ℕ) → w < 2 ^ 64 → left < 2 ^ 64 → i < ones w → set_bits 64 from left ≡ drop i (set_bits 64 from w)
+    → let v = from + count_trailing_zeros 64 left in (v ≡ get_or (set_bits 64 from w) i v) × (set_bits 64 from (bit_and left (left - 1)) ≡ drop (i + 1) (set_bits 64 from w))
+left_next from w left i h small l e =
+    let v = from + count_trailing_zeros 64 left in
+    let all = set_bits 64 from w in
+    let short : i < length all = omega (arith, ones_set 64 from w h) in
+    let split = sym (first_bit 64 64 from left (left_some from w left i h l e) small (omega arith)) ∙ e ∙ drop_more all i v short in
+    (cc, cc)

@@ -1,12 +1,13 @@
 -- A square of bits, one for each ordered pair of persons, row by row in whole bytes. Assumes nothing.
 --     stride n                    the bytes of a row for n persons
 --     place n u v                 the byte of the pair u, v
+--     row_of n bits u             the bytes of u's row, none for nobody
 --     bit_of x k                  the bit k of x, counted from the lowest
 --     bit_at n bits u v           u and v are persons whose bit is set
 --     net_in n bits grades        the network that they mean
 --     spare_at n bits u v         a bit of u's row past the last person is set
 --     flipped n bits u v          the bit of u, v turned over
-use Rattle.std.specs.Prelude.{ℕ, ◌+◌, ◌*◌, ◌/◌, ◌%◌, ◌^◌, Bool, ◌&&◌, List, take, ◌==◌, bit_xor, nat_le, nat_lt, slice_index, slice_set}
+use Rattle.std.specs.Prelude.{ℕ, ◌+◌, ◌*◌, ◌/◌, ◌%◌, ◌^◌, Bool, cond, ◌&&◌, List, [], take, drop, ◌==◌, bit_xor, nat_le, nat_lt, slice_index, slice_set}
 use Rattle.networks.specs.Net.{Net}
 
 abbrev pub stride : ℕ → ℕ
@@ -14,6 +15,9 @@ stride n = (n + 7) / 8
 
 abbrev pub place : ℕ → ℕ → ℕ → ℕ
 place n u v = u * stride n + v / 8
+
+abbrev pub row_of : ℕ → List ℕ → ℕ → List ℕ
+row_of n bits u = cond (nat_lt u n) (take (stride n) (drop (u * stride n) bits)) []
 
 abbrev pub bit_of : ℕ → ℕ → Bool
 bit_of x k = (x / 2 ^ k) % 2 == 1

@@ -1,11 +1,6 @@
 -- A row read by words of 64 bits. Assumes nothing.
---     word_of bytes               the number of some bytes, the low byte first
 --     set_bits m from w           the places of the set bits among the lowest m of w, rising, counted from `from`
-use Rattle.std.specs.Prelude.{ℕ, zero, suc, ◌+◌, ◌*◌, ◌/◌, ◌%◌, cond, List, [], ◌∷◌, ◌==◌}
-
-abbrev pub word_of : List ℕ → ℕ
-word_of [] = 0
-word_of (b ∷ bs) = b + 256 * word_of bs
+use Rattle.std.specs.Prelude.{ℕ, zero, suc, ◌+◌, ◌/◌, ◌%◌, cond, List, [], ◌∷◌, ◌==◌}
 
 unfoldable pub set_bits : ℕ → ℕ → ℕ → List ℕ
 set_bits zero from w = []

@@ -2,8 +2,8 @@
 ghost use Rattle.std.specs.Prelude.{◌≡◌, refl, [], ◌∷◌, length};
 ghost use Rattle.matrix.specs.Memory.{refusal_for, fixed_in, Holding};
 
-use crate::bits::{are_bytes, clear_rows};
 use crate::matrix::{BitMatrix, MatrixMemory};
+use crate::square::{Square, are_bytes, stride};
 use faults::CallFault;
 use grades::Grade;
 use networks::Opening;
@@ -29,26 +29,27 @@ impl<G: Grade + Drop> Opening for BitMatrix<G> {
         if n > 4096 {
             return Err(CallFault::TooLarge);
         }
-        if memory.bits.len() < n * ((n + 7) / 8) || memory.grades.len() < n {
+        if memory.bits.len() < n * stride(n) || memory.grades.len() < n {
             return Err(CallFault::ShortMemory);
         }
         Ok(())
     }
 
     fn open(n: usize, memory: MatrixMemory<G>) -> BitMatrix<G> {
-        let granted = <BitMatrix<_> as Opening>::check(n, &memory).is_ok();
-        let mut bits = memory.bits;
-        let grades = memory.grades;
-        if granted {
-            clear_rows(&mut bits, n);
-            return BitMatrix { n, bits, grades };
+        let n = Self::check(n, &memory).map_or(0, |_| n);
+        let MatrixMemory { bits, grades } = memory;
+        BitMatrix {
+            square: Square::cleared(n, bits),
+            grades,
         }
-        BitMatrix { n: 0, bits, grades }
     }
 
     fn close(self) -> MatrixMemory<G> {
-        are_bytes(&self.bits);
-        let BitMatrix { n: _, bits, grades } = self;
-        MatrixMemory { bits, grades }
+        are_bytes(&self.square.bits);
+        let BitMatrix { square, grades } = self;
+        MatrixMemory {
+            bits: square.bits,
+            grades,
+        }
     }
 }

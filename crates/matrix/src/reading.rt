@@ -3,7 +3,6 @@ ghost use Rattle.matrix.specs.Bits.{net_in};
 ghost use Rattle.matrix.specs.Kept.{matrix_sound};
 ghost use Rattle.matrix.specs.Memory.{fixed_in};
 
-use crate::bits::{bit, copy_row, nth_in_row};
 use crate::matrix::BitMatrix;
 use grades::Grade;
 use networks::Network;
@@ -12,34 +11,34 @@ use networks::places::item;
 impl<G: Grade + Drop> Network for BitMatrix<G> {
     type Grade = G;
 
-    ghost meaning = { λ s. net_in s.n s.bits.items s.grades.items };
+    ghost meaning = { λ s. net_in s.square.n s.square.bits.items s.grades.items };
 
-    ghost sound = { λ s. matrix_sound s.n s.bits.items s.grades.items s.few s.graded s.mirror s.apart };
+    ghost sound = { λ s. matrix_sound s.square.n s.square.bits.items s.grades.items s.square.few s.graded s.square.mirror s.square.apart };
 
-    ghost fixed = { λ s. fixed_in s.n s.bits.items s.grades.items };
+    ghost fixed = { λ s. fixed_in s.square.n s.square.bits.items s.grades.items };
 
     fn persons(&self) -> usize {
-        self.n
+        self.square.n
     }
 
     // A copy into no places counts.
     fn degree(&self, u: usize) -> usize {
-        copy_row(&self.bits, self.n, u, &mut [])
+        self.square.copy_row(u, &mut [])
     }
 
     fn neighbour(&self, u: usize, i: usize) -> Option<usize> {
-        nth_in_row(&self.bits, self.n, u, i)
+        self.square.nth_in_row(u, i)
     }
 
     fn linked(&self, u: usize, v: usize) -> bool {
-        bit(&self.bits, self.n, u, v)
+        self.square.bit(u, v)
     }
 
     fn grade(&self, u: usize) -> Option<G> {
-        item(&self.grades, self.n, u)
+        item(&self.grades, self.square.n, u)
     }
 
     fn copy_neighbours(&self, u: usize, places: &mut [u32]) -> usize {
-        copy_row(&self.bits, self.n, u, places)
+        self.square.copy_row(u, places)
     }
 }

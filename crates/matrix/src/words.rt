@@ -1,45 +1,33 @@
 // The set bits of a row, read by words of 64 bits.
-ghost use Rattle.std.specs.Prelude.{◌≡◌, ℕ, ◌+◌, ◌<◌, ◌≤◌, List, ◌++◌, length, if◌then◌else◌, nat_lt, slice_index};
+ghost use Rattle.std.specs.Prelude.{◌≡◌, ℕ, ◌/◌, ◌%◌, ◌≤◌, length, slice_index};
 ghost use Rattle.grades.specs.Places.{onto};
+ghost use Rattle.matrix.specs.Bits.{bit_of};
 ghost use Rattle.matrix.specs.Words.{set_bits};
 
-// Eight bytes from `from` on; those from `to` on are 0.
-pub(crate) fn eight(bits: &[u8], from: usize, to: usize) -> [u8; 8]
-    requires { (from ≤ to) × (to ≤ length bits.now) }
-    ensures { (i : ℕ) → i < 8 → slice_index result i ≡ (if nat_lt (from + i) to then slice_index bits.now (from + i) else 0) }
+// The bits of at most eight bytes, and no more.
+pub(crate) fn word(bytes: &[u8]) -> u64
+    requires { length bytes.now ≤ 8 }
+    ensures { (j : ℕ) → bit_of result j ≡ bit_of (slice_index bytes.now (j / 8)) (j % 8) }
 {
-    if to - from >= 8 {
-        return [
-            bits[from],
-            bits[from + 1],
-            bits[from + 2],
-            bits[from + 3],
-            bits[from + 4],
-            bits[from + 5],
-            bits[from + 6],
-            bits[from + 7],
-        ];
+    if let Some(eight) = bytes.first_chunk() {
+        return u64::from_le_bytes(*eight);
     }
-    let mut bytes = [0u8; 8];
-    for i in 0..to - from {
-        bytes[i] = bits[from + i];
-    }
-    bytes
+    let mut eight = [0; 8];
+    eight[..bytes.len()].copy_from_slice(bytes);
+    u64::from_le_bytes(eight)
 }
 
-// The places of the set bits of a word that begins at `from`, behind the `count` that are there.
-pub(crate) fn copy_set_bits(word: u64, from: usize, places: &mut [u32], count: usize) -> usize
-    requires { (from ≤ 4096) × (count ≤ 4096) }
-    ensures { (done ys : List ℕ) → count ≡ length done → places.old ≡ onto done ys → (result ≡ length (done ++ set_bits 64 from word)) × (places.new ≡ onto (done ++ set_bits 64 from word) ys) }
+// The places of the set bits of a word that begins at `from`; the answer is how many there are.
+pub(crate) fn copy_set_bits(word: u64, from: usize, places: &mut [u32]) -> usize
+    requires { from ≤ 4096 }
+    ensures count { result ≡ length (set_bits 64 from word) }
+    ensures copied { places.new ≡ onto (set_bits 64 from word) places.old }
 {
-    let mut count = count;
+    let count = word.count_ones() as usize;
+    let shown = count.min(places.len());
     let mut left = word;
-    while left != 0 {
-        let v = from + left.trailing_zeros() as usize;
-        if count < places.len() {
-            places[count] = v as u32;
-        }
-        count += 1;
+    for place in &mut places[..shown] {
+        *place = (from + left.trailing_zeros() as usize) as u32;
         left &= left - 1;
     }
     count

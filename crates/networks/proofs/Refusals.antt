@@ -1,11 +1,12 @@
 -- When a change is granted. Assumes nothing.
-use Rattle.std.proofs.Common.{◌≡◌, ℕ, ◌<◌, true, false, leb, is_ok, Some, None, Option, refl, ◌∙◌}
+use Rattle.std.proofs.Common.{◌≡◌, ℕ, ◌<◌, true, false, leb, is_ok, Ok, Some, None, Option, refl, ◌∙◌, arith}
 use Rattle.std.proofs.lemmas.Bool.{lt-leb, ne_eqb, or_from, cond-false, cond-true, both_ways}
 use Rattle.faults.specs.Answers.{answered}
 use Rattle.faults.specs.declared.call_fault.CallFault.{CallFault}
+use Rattle.std.proofs.lemmas.Bool.Decides.{nat_tests}
 use Rattle.networks.specs.Fixed.{opened_size}
 use Rattle.networks.specs.Net.{Net, degree_of}
-use Rattle.networks.specs.Changes.{pair_fault, link_fault, unlink_fault, regrade_fault}
+use Rattle.networks.specs.Changes.{pair_fault, new_pair_fault, link_fault, unlink_fault, regrade_fault}
 
 module _ {G : Type 0} (net : Net G) (u v : ℕ) (a : u < net.persons) (b : v < net.persons) (ne : u ≡ v → ⊥) where
   -- two persons who are not one: the other refusals decide
@@ -25,6 +26,18 @@ module _ {G : Type 0} (net : Net G) (u v : ℕ) (a : u < net.persons) (b : v < n
 
 pub regrade_granted : {G : Type 0} (net : Net G) (u : ℕ) → u < net.persons → regrade_fault net u ≡ None
 regrade_granted net u a = cond-false _ _ _ (lt-leb net.persons u a)
+
+-- what a check that grants says of a pair
+pub granted : (f : Option CallFault) → answered f (tt {0}) ≡ Ok (tt {0}) → f ≡ None
+granted None h = refl
+granted (Some x) h = cc
+
+module _ {G : Type 0} (net : Net G) (u v : ℕ) where
+  pub new_pair : new_pair_fault net u v ≡ None → (u < net.persons) × (v < net.persons) × (u ≡ v → ⊥) × (net.linked u v ≡ false)
+  new_pair h = (grind (arith, nat_tests), grind (arith, nat_tests), λ e. grind (arith, nat_tests), grind (arith, nat_tests))
+
+  pub linked_pair : unlink_fault net u v ≡ None → (u < net.persons) × (v < net.persons) × (u ≡ v → ⊥) × (net.linked u v ≡ true)
+  linked_pair h = (grind (arith, nat_tests), grind (arith, nat_tests), λ e. grind (arith, nat_tests), grind (arith, nat_tests))
 
 -- what a check that grants, or refuses, says of the refusal
 pub granted_none : (f : Option CallFault) → is_ok (answered f (tt {0})) ≡ true → f ≡ None

@@ -1,41 +1,30 @@
-use Rattle.std.proofs.Common.{◌≡◌, ◌-◌, false, sym, ap, ◌∙◌, arith}
-use Rattle.std.proofs.lemmas.List.{with_items_is}
+use Rattle.std.proofs.Common.{◌≡◌, ◌-◌, None, sym, ap, ◌∙◌, ap₂, arith}
 use Rattle.faults.specs.Answers.{answered, unless}
-use Rattle.networks.specs.Changes.{with_link}
-use Rattle.networks.proofs.Refusals.{link_granted}
+use Rattle.networks.specs.Changes.{with_link, new_pair_fault, link_fault}
+use Rattle.networks.proofs.Refusals.{granted, new_pair, link_granted}
 use Rattle.networks.proofs.Rising.{kept_misses}
-use Rattle.matrix.specs.Bits.{bit_at, net_in, pair_flipped}
+use Rattle.matrix.specs.Bits.{bit_at, net_in}
 use Rattle.matrix.specs.Memory.{fixed_in}
-use Rattle.matrix.proofs.Pairs.{pair_keeps, pair_fixed, net_linked}
+use Rattle.matrix.proofs.Pairs.{pair_fixed, net_linked}
 use Rattle.matrix.proofs.changing.BitMatrixChanging.link.Goals as goal
-
-pub invariant_of-self : goal.invariant_of-self
-invariant_of-self g c =
-    let s = c.args.self.now in
-    let u = c.args.u in
-    let v = c.args.v in
-    let stored = with_items_is s.bits c.flip_pair.new.bits (omega arith) ∙ c.flip_pair.ensures ∙ ap (λ t. pair_flipped s.n t u v) c.deref_mut.ensures.value in
-    let k = pair_keeps s.n s.bits.items u v c.if-u-n.false c.if-v-n.false c.if-u-v.false s.room (record { room = s.room; mirror = s.mirror; apart = s.apart; spare = s.spare }) _ stored in
-    record { few = s.few; room = k.room; graded = s.graded; mirror = k.mirror; apart = k.apart; spare = k.spare }
 
 pub returns : goal.returns
 returns g c =
-    let s = c.args.self.now in
+    let s = c.args.self.now.square in
+    let grades = c.args.self.now.grades.items in
     let u = c.args.u in
     let v = c.args.v in
-    let net = net_in s.n s.bits.items s.grades.items in
-    let stored = with_items_is s.bits c.flip_pair.new.bits (omega arith) ∙ c.flip_pair.ensures ∙ ap (λ t. pair_flipped s.n t u v) c.deref_mut.ensures.value in
-    let here : bit_at s.n s.bits.items u v ≡ false = sym c.linked.ensures ∙ c.if-linked.false in
-    let there : bit_at s.n s.bits.items v u ≡ false = s.mirror v u ∙ here in
-    let granted = (
-    let du = kept_misses (bit_at s.n s.bits.items u) s.n u v c.if-u-n.false c.if-v-n.false c.if-u-v.false (s.apart u) here in
-    let dv = kept_misses (bit_at s.n s.bits.items v) s.n u v c.if-u-n.false c.if-v-n.false c.if-u-v.false there (s.apart v) in
-    link_granted net u v c.if-u-n.false c.if-v-n.false c.if-u-v.false (s.n - 1) here (omega arith) (omega arith)) in
+    let net = net_in s.n s.bits.items grades in
+    let pair = new_pair net u v (granted (new_pair_fault net u v) (sym c.check_new_pair.ensures ∙ c.in_ok-check_new_pair.was)) in
+    let there = s.mirror v u ∙ pair.3 in
+    let none : link_fault (s.n - 1) net u v ≡ None = (
+    let du = kept_misses (bit_at s.n s.bits.items u) s.n u v pair.0 pair.1 pair.2 (s.apart u) pair.3 in
+    let dv = kept_misses (bit_at s.n s.bits.items v) s.n u v pair.0 pair.1 pair.2 there (s.apart v) in
+    link_granted net u v pair.0 pair.1 pair.2 (s.n - 1) pair.3 (omega arith) (omega arith)) in
     record {
-      cases = ap (λ f. answered f tt) (sym granted);
-      network = ap (λ t. net_in s.n t s.grades.items) stored
-          ∙ net_linked s.n s.bits.items u v c.if-u-n.false c.if-v-n.false c.if-u-v.false s.room s.grades.items here there
-          ∙ ap (λ f. unless f (with_link net u v) net) (sym granted);
-      fixed = ap (λ t. fixed_in s.n t s.grades.items) stored
-          ∙ pair_fixed s.n s.bits.items u v c.if-u-n.false c.if-v-n.false c.if-u-v.false s.room s.grades.items;
+      cases = ap (λ f. answered f tt) (sym none);
+      network = ap₂ (λ n t. net_in n t grades) c.flip_pair.ensures.persons c.flip_pair.ensures.bits
+          ∙ net_linked s.n s.bits.items u v pair.0 pair.1 pair.2 s.room grades pair.3 there
+          ∙ ap (λ f. unless f (with_link net u v) net) (sym none);
+      fixed = ap₂ (λ n t. fixed_in n t grades) c.flip_pair.ensures.persons c.flip_pair.ensures.bits ∙ pair_fixed s.n s.bits.items u v pair.0 pair.1 pair.2 s.room grades;
     }
