@@ -1,6 +1,8 @@
 -- A pair whose two bits are flipped: the network with a link more or less, and what the square keeps. Assumes nothing.
-use Rattle.std.proofs.Common.{◌≡◌, ℕ, ◌-◌, ◌*◌, ◌<◌, ◌≤◌, Bool, true, false, cond, not, ◌&&◌, ◌||◌, eqb, List, [], ◌∷◌, length, take, drop, sym, ap, ◌∙◌, subst, ap₂, inl, inr, arith}
+use Rattle.std.proofs.Common.{◌≡◌, ℕ, ◌-◌, ◌*◌, ◌%◌, ◌^◌, ◌<◌, ◌≤◌, Bool, true, false, cond, not, ◌&&◌, ◌||◌, eqb, List, [], ◌∷◌, length, get_or, take, drop, set, sym, ap, ◌∙◌, subst, ap₂, inl, inr, arith}
 use mathlib.Core.Path.{fun_ext}
+use lib.Bits.{bit_xor}
+use Rattle.std.proofs.lemmas.Grind.{common_steps}
 use Rattle.std.proofs.lemmas.List.{length-set, drop-set-lt}
 use Rattle.std.proofs.lemmas.Bool.{cases_Bool, eq-eqb, eqb-true, and_from, and_parts, or_left, or_right, or_cases, or_from, both_ways, cond-true, cond-false}
 use Rattle.std.proofs.lemmas.Bool.Decides.{nat_tests}
@@ -17,6 +19,11 @@ pub record Kept (n : ℕ) (bits : List ℕ) : Type 0 where
   pub mirror : (x y : ℕ) → bit_at n bits x y ≡ bit_at n bits y x
   pub apart : (x : ℕ) → bit_at n bits x x ≡ false
   pub spare : (x y : ℕ) → spare_at n bits x y ≡ false
+
+-- two bytes written, as the program does it
+pub pair_written : (n : ℕ) (bits : List ℕ) (u v here there a b : ℕ) → here ≡ place n u v → there ≡ place n v u → here < length bits → there < length bits
+    → let once = set bits here (bit_xor a (1 * 2 ^ (v % 8) % 256)) in a ≡ get_or bits here a → b ≡ get_or once there b → set once there (bit_xor b (1 * 2 ^ (u % 8) % 256)) ≡ pair_flipped n bits u v
+pair_written n bits u v here there a b p q l m e f = grind (arith, common_steps)
 
 pair_mirror : (u v x y : ℕ) → is_pair u v x y ≡ is_pair u v y x
 pair_mirror u v x y = grind (arith, nat_tests)
