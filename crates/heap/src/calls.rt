@@ -8,6 +8,7 @@ use crate::sift::{sift_up, take_first};
 use faults::CallFault;
 
 // The count of a heap in which nothing waits.
+#[tactic(auto, using(crate::proofs::Standing::holds_none))]
 pub fn empty<T: Ordered>(places: &[T]) -> usize
     ensures count { result ≡ 0 }
     ensures stands { Holds T.at_most [] places.now result }
@@ -30,6 +31,7 @@ pub fn put<T: Ordered + Copy>(places: &mut [T], waiting: usize, x: T) -> Result<
 }
 
 // The least of those that wait.
+#[tactic(auto, using(crate::proofs::Standing::least_first))]
 pub fn least<T: Ordered + Copy>(places: &[T], waiting: usize) -> Option<T>
     ensures cases { is_some result ≡ waits places.now waiting }
     ensures stands { IfSome result (λ x. (bag : List T) → Holds T.at_most bag places.now waiting → Least T.at_most bag x) }
@@ -41,6 +43,7 @@ pub fn least<T: Ordered + Copy>(places: &[T], waiting: usize) -> Option<T>
 }
 
 // Takes the least of those that wait.
+#[tactic(auto, using(crate::proofs::Standing::holds_take))]
 pub fn take<T: Ordered + Copy>(places: &mut [T], waiting: usize) -> Option<T>
     ensures cases { is_some result ≡ waits places.old waiting }
     ensures kept { IfNone result (places.new ≡ places.old) }
