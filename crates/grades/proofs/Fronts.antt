@@ -1,7 +1,7 @@
 -- A list written over the front of another, element by element. Assumes nothing.
-use Rattle.std.proofs.Common.{◌≡◌, ℕ, zero, suc, ◌+◌, ◌<◌, ◌≤◌, min, List, [], ◌∷◌, ◌++◌, length, get_or, take, drop, set, sym, refl, ap, ◌∙◌, inl, inr, arith}
-use Rattle.std.proofs.lemmas.List.{take_more, drop_more, set_at, append_assoc, length-append, length-take, length-take-le, length-drop, take_all, drop_all, take-append-le}
-use Rattle.std.proofs.lemmas.Bool.{cases_lt}
+use Rattle.std.proofs.Common.{◌≡◌, ℕ, ◌+◌, ◌<◌, ◌≤◌, min, List, [], ◌∷◌, ◌++◌, length, get_or, take, drop, set, sym, refl, ap, ◌∙◌, arith}
+use Rattle.std.proofs.lemmas.Grind.{common_steps}
+use Rattle.std.proofs.lemmas.List.{take_more, drop_more, set_at, append_assoc, length-append, length-take-le, take_all}
 use Rattle.grades.specs.Places.{onto}
 
 -- one more of xs written, with i written so far
@@ -12,34 +12,24 @@ onto_more xs ys i x a b e =
     ∙ sym (ap (λ t. t ++ drop (i + 1) ys) (take_more xs i x a ∙ ap (λ y. take i xs ++ y ∷ []) (sym e)) ∙ append_assoc (take i xs) (x ∷ []) (drop (i + 1) ys))
 
 pub onto_all : {X : Type 0} (xs ys : List X) (i : ℕ) → i ≡ min (length xs) (length ys) → take i xs ++ drop i ys ≡ onto xs ys
-onto_all xs ys i e = elim (cases_lt (length xs) (length ys)) [
-  | inl h ↦ (let f : i ≡ length xs = omega arith in rw f (ap (λ t. t ++ drop (length xs) ys) (take_all (length xs) xs (omega arith) ∙ sym (take_all (length ys) xs (omega arith)))))
-  | inr h ↦ (let f : i ≡ length ys = omega arith in rw f (ap (λ t. take (length ys) xs ++ t) (drop_all (length ys) ys (omega arith) ∙ sym (drop_all (length xs) ys h))))
-]
-
-take_none : {X : Type 0} (n : ℕ) → take {A = X} n [] ≡ []
-take_none zero = refl
-take_none (suc n) = refl
+onto_all xs ys i e = grind (arith, common_steps)
 
 pub onto_nil : {X : Type 0} (ys : List X) → onto [] ys ≡ ys
-onto_nil ys = ap (λ t. t ++ ys) (take_none (length ys))
+onto_nil ys = grind (arith, common_steps)
 
 -- one more element, with room and without
 pub onto_push : {X : Type 0} (xs ys : List X) (x : X) → length xs < length ys → set (onto xs ys) (length xs) x ≡ onto (xs ++ x ∷ []) ys
 onto_push xs ys x h =
     let m : length (xs ++ x ∷ []) ≡ length xs + 1 = length-append xs (x ∷ []) in
-    ap (λ t. set (t ++ drop (length xs) ys) (length xs) x) (take_all (length ys) xs (omega arith))
-    ∙ ap (λ t. set (xs ++ t) (length xs) x) (drop_more ys (length xs) x h)
-    ∙ set_at xs (get_or ys (length xs) x) (drop (length xs + 1) ys) x (length xs) refl
-    ∙ sym (ap (λ t. t ++ drop (length (xs ++ x ∷ [])) ys) (take_all (length ys) (xs ++ x ∷ []) (omega arith))
-    ∙ ap (λ t. (xs ++ x ∷ []) ++ drop t ys) m
-    ∙ append_assoc xs (x ∷ []) (drop (length xs + 1) ys))
+    let a : take (length ys) xs ≡ xs = take_all (length ys) xs (omega arith) in
+    let b : take (length ys) (xs ++ x ∷ []) ≡ xs ++ x ∷ [] = take_all (length ys) (xs ++ x ∷ []) (omega arith) in
+    let d = drop_more ys (length xs) x h in
+    let s = set_at xs (get_or ys (length xs) x) (drop (length xs + 1) ys) x (length xs) refl in
+    let t = append_assoc xs (x ∷ []) (drop (length xs + 1) ys) in
+    cc
 
 pub onto_full : {X : Type 0} (xs ys : List X) (x : X) → length ys ≤ length xs → onto xs ys ≡ onto (xs ++ x ∷ []) ys
-onto_full xs ys x h =
-    let m : length (xs ++ x ∷ []) ≡ length xs + 1 = length-append xs (x ∷ []) in
-    ap (λ t. take (length ys) xs ++ t) (drop_all (length xs) ys h ∙ sym (drop_all (length (xs ++ x ∷ [])) ys (omega arith)))
-    ∙ ap (λ t. t ++ drop (length (xs ++ x ∷ [])) ys) (sym (take-append-le (length ys) xs (x ∷ []) h))
+onto_full xs ys x h = grind (arith, common_steps)
 
 pub length_onto : {X : Type 0} (xs ys : List X) → length (onto xs ys) ≡ length ys
-length_onto xs ys = omega (arith, length-append (take (length ys) xs) (drop (length xs) ys), length-take (length ys) xs, length-drop (length xs) ys)
+length_onto xs ys = grind (arith, common_steps)
