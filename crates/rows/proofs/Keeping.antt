@@ -1,11 +1,11 @@
--- A memory of rows that keeps its facts: each row is ready to be read and changed. Assumes nothing.
-use Rattle.std.proofs.Common.{◌≡◌, ℕ, ◌*◌, ◌<◌, ◌≤◌, List, length, get_or, vec_items, filter, sym, ap, ◌∙◌, subst, arith}
-use Rattle.std.specs.List.{range_with_len}
-use Rattle.rows.specs.declared.rows.AdjacencyRows.{AdjacencyRows}
-use Rattle.rows.specs.Row.{Ready, row_of}
-use Rattle.rows.specs.Rows.{linked_in, Within, Listed}
-use Rattle.rows.proofs.Neighbourhoods.{tidy_rising, row_near}
-use Rattle.rows.proofs.Overwriting.{row_long}
+-- Tidy rows keep their facts: each row lies in the memory, and is who it links. Assumes nothing.
+use Rattle.std.proofs.Common.{◌≡◌, ℕ, ◌+◌, ◌*◌, ◌^◌, ◌<◌, ◌≤◌, List, length, get_or, vec_items, sym, ap, ◌∙◌, arith}
+use Rattle.std.proofs.lemmas.List.{get_or_default, length-drop, length-take-le}
+use Rattle.rows.specs.declared.tidy.TidyRows.{TidyRows}
+use Rattle.rows.specs.Row.{row_of}
+use Rattle.rows.specs.Rows.{Within, Listed}
+use Rattle.rows.specs.Tidy.{in_row}
+use Rattle.rows.proofs.Neighbourhoods.{row_near}
 use Rattle.rows.proofs.Stretches.{row_ends, first_small}
 
 -- room for n rows, none too long, all tidy
@@ -15,25 +15,34 @@ pub record Kept (n span : ℕ) (counts cells : List ℕ) : Type 0 where
   pub within : Within n span counts
   pub listed : Listed n span counts cells
 
-pub kept_in : {G : Type 0} (s : AdjacencyRows G) → Kept s.n s.span (vec_items s.counts) (vec_items s.cells)
-kept_in s = record { counted = s.counted; roomy = s.roomy; within = s.within; listed = s.listed }
+-- where the row of u lies, and who stands in it
+pub record Lies (s : TidyRows) (u : ℕ) : Type 0 where
+  pub known : u < length (vec_items s.counts)
+  pub small : u * s.span < 2 ^ 32
+  pub narrow : s.span ≤ 4095
+  pub within : get_or (vec_items s.counts) u 0 ≤ s.span
+  pub roomy : u * s.span + s.span ≤ length (vec_items s.cells)
+  pub near : row_of s.span (vec_items s.counts) (vec_items s.cells) u ≡ in_row s u
+  pub counts : get_or (vec_items s.counts) u 0 ≡ length (in_row s u)
 
-module _ {n span : ℕ} {counts cells : List ℕ} (kept : Kept n span counts cells) (u : ℕ) (inside : u < n) where
-  pub row_counts : length (row_of span counts cells u) ≡ get_or counts u 0
-  row_counts = row_long cells (u * span) (get_or counts u 0) (omega (arith, kept.roomy, kept.within u inside, row_ends u n span inside))
+pub lies : (s : TidyRows) (u : ℕ) → u < s.n → Lies s u
+lies s u inside =
+    let counts = vec_items s.counts in
+    let cells = vec_items s.cells in
+    let thin : s.span ≤ 4095 = s.narrow (omega arith) in
+    let within = s.within u inside in
+    let roomy : u * s.span + s.span ≤ length cells = omega (arith, s.roomy, row_ends u s.n s.span inside) in
+    let near = row_near s.n s.span counts cells u inside (s.listed u inside) in
+    record {
+      known = omega (arith, s.counted);
+      small = first_small u s.n s.span inside s.few thin;
+      narrow = thin;
+      within = within;
+      roomy = roomy;
+      near = near;
+      counts = sym (length-take-le (get_or counts u 0) _ (omega (arith, length-drop (u * s.span) cells))) ∙ ap length near;
+    }
 
-  pub count_degree : get_or counts u 0 ≡ length (filter (linked_in n span counts cells u) (range_with_len 0 n))
-  count_degree = sym row_counts ∙ ap length (row_near n span counts cells u inside (kept.listed u inside))
-
-  ready : n ≤ 4096 → span ≤ 4095 → Ready span counts cells u
-  ready few narrow = record {
-    known = omega (arith, kept.counted);
-    small = first_small u n span inside few narrow;
-    within = kept.within u inside;
-    roomy = omega (arith, kept.roomy, row_ends u n span inside);
-    rising = tidy_rising n (row_of span counts cells u) (kept.listed u inside);
-  }
-
-  -- the same of the memory as it is lent
-  pub ready_lent : n ≤ 4096 → span ≤ 4095 → {ks xs : List ℕ} → ks ≡ counts → xs ≡ cells → Ready span ks xs u
-  ready_lent few narrow {ks} {xs} e d = subst (λ t. Ready span t xs u) (sym e) (subst (λ t. Ready span counts t u) (sym d) (ready few narrow))
+-- what was read at u
+pub reads : (xs : List ℕ) (u x : ℕ) → u < length xs → x ≡ get_or xs u x → x ≡ get_or xs u 0
+reads xs u x h e = e ∙ get_or_default xs u x 0 h

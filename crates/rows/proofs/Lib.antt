@@ -2,13 +2,13 @@ pub mod Standing
 pub mod Sieve
 pub mod Stretches
 pub mod Neighbourhoods
-pub mod Shifts
-pub mod Overwriting
+pub mod Places
 pub mod Keeping
 pub mod Tidying
 pub mod Rewriting
 pub mod Pairing
 pub mod Linking
 pub mod Grading
+pub mod Clearing
 pub mod Holding
-pub mod Sizes
+pub mod Granted

@@ -1,137 +1,96 @@
--- Both rows of a pair changed, one after the other. Assumes nothing.
-use Rattle.std.proofs.Common.{◌≡◌, ℕ, ◌*◌, ◌<◌, ◌≤◌, Bool, true, false, cond, not, ◌&&◌, ◌||◌, eqb, List, [], ◌∷◌, length, get_or, take, drop, set, filter, sym, refl, ap, ◌∙◌, subst, ap₂, arith}
-use mathlib.Core.Path.{fun_ext}
-use Rattle.std.specs.List.{range_with_len}
-use Rattle.std.proofs.lemmas.List.{get_or-set_other}
-use Rattle.std.proofs.lemmas.Bool.{lt-ltb, eq-eqb, eqb-true, ne_eqb, and_left, or_from}
-use Rattle.networks.specs.Changes.{is_pair}
-use Rattle.networks.specs.Fixed.{Fixed}
-use Rattle.networks.specs.Net.{Net}
-use Rattle.rows.specs.Memory.{fixed_in}
-use Rattle.rows.specs.Row.{has, Tidy, row_of, entered, leaving, written_at, BothRewritten}
-use Rattle.rows.specs.Rows.{linked_in, net_in, Bothways}
-use Rattle.rows.proofs.Keeping.{Kept, row_counts, count_degree}
-use Rattle.rows.proofs.Pairing.{one_more, one_less, both_more, both_less}
-use Rattle.rows.proofs.Overwriting.{entered_long, leaving_long}
-use Rattle.rows.proofs.Rewriting.{still_kept, counts_behind, cells_behind_lem, counts_long, cells_long_lem, relinked}
-use Rattle.rows.proofs.Tidying.{tidy_entered, has_entered, tidy_leaving, has_leaving}
+-- A number entered in one row, or taken out. Assumes nothing.
+use Rattle.std.proofs.Common.{◌≡◌, ℕ, ◌+◌, ◌-◌, ◌*◌, ◌<◌, ◌≤◌, Bool, true, false, not, ◌&&◌, ◌||◌, eqb, List, ◌++◌, length, get_or, take, drop, set, vec_items, sym, refl, ap, ◌∙◌, subst, ap₂, arith}
+use borrow.Rule.Slice.PartMut.{put_mid}
+use Rattle.std.specs.List.{insert, remove}
+use Rattle.std.specs.Vec.{with_item, with_items}
+use Rattle.std.proofs.lemmas.List.{length-append, length-drop, length-take-le, take_all, take_at, take-take, with_items_is}
+use Rattle.std.proofs.lemmas.List.Edits.{length-insert, length-remove}
+use Rattle.std.proofs.lemmas.Bool.{lt-ltb, eq-eqb, eqb-true}
+use Rattle.rows.specs.declared.tidy.TidyRows.{TidyRows}
+use Rattle.rows.specs.Row.{has, place_of, row_of}
+use Rattle.rows.specs.Tidy.{links, in_row}
+use Rattle.rows.proofs.Keeping.{lies, reads}
+use Rattle.rows.proofs.Pairing.{one_more, one_less}
+use Rattle.rows.proofs.Rewriting.{Becomes, rewritten}
+use Rattle.rows.proofs.Sieve.{has_kept}
+use Rattle.rows.proofs.Standing.{place_within, placed}
+use Rattle.rows.proofs.Tidying.{entered, leaving, tidy_entered, has_entered, tidy_leaving, has_leaving}
 
--- the memory after a change, with the links f, and all else as it was
-pub record Becomes (n span : ℕ) (counts cells : List ℕ) (f : ℕ → ℕ → Bool) (counts' cells' : List ℕ) : Type 0 where
-  pub kept : Kept n span counts' cells'
-  pub linked : (x y : ℕ) → linked_in n span counts' cells' x y ≡ f x y
-  pub behind : drop n counts' ≡ drop n counts
-  pub cells_behind : drop (n * span) cells' ≡ drop (n * span) cells
-  pub long : length counts' ≡ length counts
-  pub cells_long : length cells' ≡ length cells
+module _ (s : TidyRows) (u v : ℕ) (a : u < s.n) (b : v < s.n) where
+  abbrev counts : List ℕ
+  counts = vec_items s.counts
 
-becomes_at : (n span : ℕ) (counts cells : List ℕ) (f : ℕ → ℕ → Bool) (ks ks' xs xs' : List ℕ) → ks' ≡ ks → xs' ≡ xs → Becomes n span counts cells f ks xs → Becomes n span counts cells f ks' xs'
-becomes_at n span counts cells f ks ks' xs xs' e d b =
-    subst (λ t. Becomes n span counts cells f t xs') (sym e) (subst (Becomes n span counts cells f ks) (sym d) b)
+  abbrev cells : List ℕ
+  cells = vec_items s.cells
 
-module _ {n span : ℕ} {counts cells : List ℕ} (kept : Kept n span counts cells) (u v : ℕ) (a : u < n) (b : v < n) where
+  abbrev first : ℕ
+  first = u * s.span
+
   abbrev row : List ℕ
-  row = row_of span counts cells u
-
-  abbrev linked : ℕ → ℕ → Bool
-  linked = linked_in n span counts cells
+  row = row_of s.span counts cells u
 
   -- who stands in the row of u is linked to u
-  row_linked : (x y : ℕ) → eqb x u ≡ true → has y row ≡ linked x y
-  row_linked x y e = sym (ap (λ t. linked t y) (eqb-true x u e) ∙ ap (λ t. t && has y row) (lt-ltb u n a))
+  row_linked : (x y : ℕ) → eqb x u ≡ true → has y row ≡ links s x y
+  row_linked x y e = sym (ap (λ t. links s t y) (eqb-true x u e) ∙ ap (λ t. t && has y row) (lt-ltb u s.n a))
 
-  row_rewritten : (xs : List ℕ) (q : ℕ → Bool) (f : ℕ → ℕ → Bool) → length xs ≤ span → Tidy n xs → ((y : ℕ) → has y xs ≡ q y)
-      → ((x y : ℕ) → cond (eqb x u) (q y) (linked x y) ≡ f x y) → Becomes n span counts cells f (set counts u (length xs)) (written_at (u * span) xs cells)
-  row_rewritten xs q f fits tidy is to = record {
-    kept = still_kept n span counts cells kept u a xs fits tidy;
-    linked = λ x y. relinked n span counts cells kept u a xs fits q is x y ∙ to x y;
-    behind = counts_behind n span counts cells kept u a xs fits;
-    cells_behind = cells_behind_lem n span counts cells kept u a xs fits;
-    long = counts_long n span counts cells kept u a xs fits;
-    cells_long = cells_long_lem n span counts cells kept u a xs fits;
-  }
+  -- one who is linked to u has a place in the row of u
+  pub place_inside : links s u v ≡ true → place_of v (in_row s u) < length (in_row s u)
+  place_inside held = placed v (in_row s u) (has_kept (links s u) s.n v ∙ ap (λ t. t && links s u v) (lt-ltb v s.n b) ∙ held)
 
-  put_once : linked u v ≡ false → get_or counts u 0 < span → Becomes n span counts cells (λ x y. (eqb x u && eqb y v) || linked x y) (set counts u (length (entered v row))) (written_at (u * span) (entered v row) cells)
-  put_once free room =
-      let out : has v row ≡ false = row_linked u v (eq-eqb u u refl) ∙ free in
-      let tidy = kept.listed u a in
-      row_rewritten (entered v row) (λ y. eqb y v || has y row) (λ x y. (eqb x u && eqb y v) || linked x y)
-      (omega (arith, entered_long v row, row_counts kept u a))
-      (tidy_entered n v b row tidy out)
-      (has_entered n v b row tidy out)
-      (λ x y. one_more (eqb x u) (eqb y v) (has y row) (linked x y) (row_linked x y))
+  module _ (at count held : ℕ) (lent new : List ℕ) (is : count ≡ length (in_row s u)) (was : held ≡ get_or counts u held) (same : lent ≡ cells) (here : at ≡ place_of v (in_row s u)) where
+    abbrev part : ℕ → List ℕ
+    part k = take (first + k - first) (drop first lent)
 
-  take_once : linked u v ≡ true → Becomes n span counts cells (λ x y. not (eqb x u && eqb y v) && linked x y) (set counts u (length (leaving v row))) (written_at (u * span) (leaving v row) cells)
-  take_once held =
-      let stands : has v row ≡ true = row_linked u v (eq-eqb u u refl) ∙ held in
-      let tidy = kept.listed u a in
-      row_rewritten (leaving v row) (λ y. not (eqb y v) && has y row) (λ x y. not (eqb x u && eqb y v) && linked x y)
-      (omega (arith, leaving_long v row, row_counts kept u a, kept.within u a))
-      (tidy_leaving n v b row tidy stands)
-      (has_leaving n v b row tidy stands)
-      (λ x y. one_less (eqb x u) (eqb y v) (has y row) (linked x y) (row_linked x y))
+    part_is : (k : ℕ) → part k ≡ take k (drop first cells)
+    part_is k = let e : first + k - first ≡ k = omega arith in ap₂ (λ j t. take j (drop first t)) e same
 
--- one change after another
-then_becomes : (n span : ℕ) (counts cells ks xs ks' xs' : List ℕ) (f g h : ℕ → ℕ → Bool) → Becomes n span counts cells f ks xs → Becomes n span ks xs g ks' xs'
-    → ((x y : ℕ) → g x y ≡ h x y) → Becomes n span counts cells h ks' xs'
-then_becomes n span counts cells ks xs ks' xs' f g h one two to = record {
-  kept = two.kept;
-  linked = λ x y. two.linked x y ∙ to x y;
-  behind = two.behind ∙ one.behind;
-  cells_behind = two.cells_behind ∙ one.cells_behind;
-  long = two.long ∙ one.long;
-  cells_long = two.cells_long ∙ one.cells_long;
-}
+    -- the row as it was cut out
+    cut : take count (drop first cells) ≡ row
+    cut = let l = lies s u a in let e : count ≡ get_or counts u 0 = omega arith in ap (λ k. take k (drop first cells)) e
 
--- both rows rewritten in memory that was lent
-both_lent : (edit : ℕ → List ℕ → List ℕ) (span u v : ℕ) {counts cells dk dx ks xs ks' xs' : List ℕ} → dk ≡ counts → dx ≡ cells → ks' ≡ ks → xs' ≡ xs
-    → BothRewritten edit span u v dk dx ks xs → BothRewritten edit span u v counts cells ks' xs'
-both_lent edit span u v {counts} {cells} {dk} {dx} {ks} {xs} {ks'} {xs'} a b c d r =
-    subst (λ t. BothRewritten edit span u v t cells ks' xs') a (subst (λ t. BothRewritten edit span u v dk t ks' xs') b
-    (subst (λ t. BothRewritten edit span u v dk dx t xs') (sym c) (subst (BothRewritten edit span u v dk dx ks) (sym d) r)))
+    place : at ≡ place_of v row
+    place = let l = lies s u a in here ∙ ap (place_of v) (sym l.near)
 
-module _ {n span : ℕ} {counts cells : List ℕ} (kept : Kept n span counts cells) (u v : ℕ) (a : u < n) (b : v < n) (ne : u ≡ v → ⊥)
-    (both : Bothways (linked_in n span counts cells)) {dk dx ks xs ks' xs' : List ℕ} (e : dk ≡ counts) (d : dx ≡ cells) (e' : ks' ≡ ks) (d' : xs' ≡ xs) where
-  abbrev before : ℕ → ℕ → Bool
-  before = linked_in n span counts cells
+    -- the counts and the cells as they stand in their memory
+    memory_is : (f : ℕ → ℕ → Bool) (c n k : ℕ) → c ≡ n → k ≤ s.span → length new ≡ k → Becomes s f (set counts u n) (put_mid first k cells new)
+        → Becomes s f (vec_items (with_item s.counts u c)) (vec_items (with_items s.cells (put_mid first (first + k - first) lent new)))
+    memory_is f c n k e fits long to =
+        let j : first + k - first ≡ k = omega arith in
+        let mid : put_mid first (first + k - first) lent new ≡ put_mid first k cells new = ap₂ (λ i t. put_mid first i t new) j same in
+        let size : length (put_mid first (first + k - first) lent new) ≡ s.cells.len = omega (arith, ap length mid, ap (λ m. m.cells) to.framed) in
+        subst (λ t. Becomes s f t (vec_items (with_items s.cells (put_mid first (first + k - first) lent new)))) (ap (set counts u) (sym e))
+        (subst (Becomes s f (set counts u n)) (sym (with_items_is s.cells (put_mid first (first + k - first) lent new) size ∙ mid)) to)
 
-  abbrev degree : ℕ → ℕ
-  degree w = length (filter (before w) (range_with_len 0 n))
+    pub put_becomes : links s u v ≡ false → length (in_row s u) < s.span → new ≡ insert (take (length (part (count + 1)) - 1) (part (count + 1))) at v
+        → Becomes s (λ x y. (eqb x u && eqb y v) || links s x y) (vec_items (with_item s.counts u (held + 1))) (vec_items (with_items s.cells (put_mid first (first + (count + 1) - first) lent new)))
+    put_becomes free room e =
+        let l = lies s u a in
+        let n : count ≡ length row = is ∙ ap length (sym l.near) in
+        let p = part_is (count + 1) in
+        let m : length (part (count + 1)) - 1 ≡ count = omega (arith, ap length p, length-take-le (count + 1) (drop first cells) (omega (arith, length-drop first cells))) in
+        let is_new : new ≡ entered v row = e ∙ ap₂ (λ t i. insert t i v) (ap₂ (λ j t. take j t) m p ∙ take-take count (count + 1) (drop first cells) (omega arith) ∙ cut) place in
+        let size : length (entered v row) ≡ count + 1 = omega (arith, length-insert row (place_of v row) v (place_within v row)) in
+        let long = ap length is_new ∙ size in
+        let out : has v row ≡ false = row_linked u v (eq-eqb u u refl) ∙ free in
+        let tidy = s.listed u a in
+        memory_is _ (held + 1) (length (entered v row)) (count + 1) (omega (arith, reads counts u held l.known was)) (omega arith) long
+        (rewritten s u (count + 1) a (omega arith) new (entered v row) long (omega arith) (ap (take (length (entered v row))) is_new ∙ take_all (length (entered v row)) (entered v row) (omega arith))
+        (λ y. eqb y v || has y row) (λ x y. (eqb x u && eqb y v) || links s x y) (tidy_entered s.n v b row tidy out) (has_entered s.n v b row tidy out)
+        (λ x y. one_more (eqb x u) (eqb y v) (has y row) (links s x y) (row_linked x y)))
 
-  other_pair : (eqb v u && eqb u v) ≡ false
-  other_pair = and_left (eqb v u) (eqb u v) (ne_eqb v u (λ w. ne (sym w)))
-
-  pub joined : before u v ≡ false → degree u < span → degree v < span → BothRewritten entered span u v dk dx ks xs → Becomes n span counts cells (λ x y. is_pair u v x y || before x y) ks' xs'
-  joined free room room' r =
-      let s = both_lent entered span u v e d e' d' r in
-      let counts₁ = s.counts_between in
-      let cells₁ = s.cells_between in
-      let one = becomes_at n span counts cells _ _ counts₁ _ cells₁ s.first.counted s.first.written (put_once kept u v a b free (omega (arith, count_degree kept u a))) in
-      let still : linked_in n span counts₁ cells₁ v u ≡ false = one.linked v u ∙ or_from (eqb v u && eqb u v) (before v u) other_pair (both v u ∙ free) in
-      let same : get_or counts₁ v 0 ≡ get_or counts v 0 = ap (λ t. get_or t v 0) s.first.counted ∙ get_or-set_other counts u v _ 0 (λ w. ne (sym w)) in
-      let two = becomes_at n span counts₁ cells₁ _ _ ks' _ xs' s.second.counted s.second.written (put_once one.kept v u b a still (omega (arith, count_degree kept v b))) in
-      then_becomes n span counts cells counts₁ cells₁ ks' xs' _ _ (λ x y. is_pair u v x y || before x y) one two
-      (λ x y. ap (λ t. (eqb x v && eqb y u) || t) (one.linked x y) ∙ both_more (eqb x u && eqb y v) (eqb x v && eqb y u) (before x y))
-
-  pub severed : before u v ≡ true → BothRewritten leaving span u v dk dx ks xs → Becomes n span counts cells (λ x y. not (is_pair u v x y) && before x y) ks' xs'
-  severed held r =
-      let s = both_lent leaving span u v e d e' d' r in
-      let counts₁ = s.counts_between in
-      let cells₁ = s.cells_between in
-      let one = becomes_at n span counts cells _ _ counts₁ _ cells₁ s.first.counted s.first.written (take_once kept u v a b held) in
-      let still : linked_in n span counts₁ cells₁ v u ≡ true = one.linked v u ∙ ap₂ (λ p q. not p && q) other_pair (both v u ∙ held) in
-      let two = becomes_at n span counts₁ cells₁ _ _ ks' _ xs' s.second.counted s.second.written (take_once one.kept v u b a still) in
-      then_becomes n span counts cells counts₁ cells₁ ks' xs' _ _ (λ x y. not (is_pair u v x y) && before x y) one two
-      (λ x y. ap (λ t. not (eqb x v && eqb y u) && t) (one.linked x y) ∙ both_less (eqb x u && eqb y v) (eqb x v && eqb y u) (before x y))
-
--- the network and what is fixed, after a change
-module _ {G : Type 0} {n span : ℕ} {counts cells : List ℕ} (grades : List G) {f : ℕ → ℕ → Bool} {ks xs : List ℕ} (to : Becomes n span counts cells f ks xs) where
-  pub net_becomes : net_in n span ks xs grades ≡ record { persons = n; grades = take n grades; linked = f }
-  net_becomes =
-      let of : (ℕ → ℕ → Bool) → Net G = λ l. record { persons = n; grades = take n grades; linked = l } in
-      ap of (fun_ext (λ x. fun_ext (λ y. to.linked x y)))
-
-  pub fixed_becomes : fixed_in n span ks xs grades ≡ fixed_in n span counts cells grades
-  fixed_becomes =
-      let sized : ℕ → ℕ → List ℕ → List ℕ → Fixed G = λ k c ys zs. record { sizes = span ∷ k ∷ c ∷ length grades ∷ []; ceiling = span; grades_behind = drop n grades; cells_behind = ys ∷ zs ∷ [] } in
-      ap₂ (λ k c. sized k c (drop n ks) (drop (n * span) xs)) to.long to.cells_long ∙ ap₂ (sized (length counts) (length cells)) to.behind to.cells_behind
+    pub take_becomes : links s u v ≡ true → new ≡ remove (part count) at ++ drop (length (part count) - 1) (part count)
+        → Becomes s (λ x y. not (eqb x u && eqb y v) && links s x y) (vec_items (with_item s.counts u (held - 1))) (vec_items (with_items s.cells (put_mid first (first + count - first) lent new)))
+    take_becomes stands e =
+        let l = lies s u a in
+        let n : count ≡ length row = is ∙ ap length (sym l.near) in
+        let rest = drop (length row - 1) row in
+        let is_new : new ≡ leaving v row ++ rest = e ∙ ap₂ (λ t i. remove t i ++ drop (length t - 1) t) (part_is count ∙ cut) place in
+        let inside : place_of v row < length row = omega (arith, ap (place_of v) l.near, ap length l.near, place_inside stands) in
+        let size : length (leaving v row) + 1 ≡ count = omega (arith, length-remove row (place_of v row) inside) in
+        let long : length new ≡ count = omega (arith, ap length is_new, length-append (leaving v row) rest, length-drop (length row - 1) row) in
+        let out : has v row ≡ true = row_linked u v (eq-eqb u u refl) ∙ stands in
+        let tidy = s.listed u a in
+        memory_is _ (held - 1) (length (leaving v row)) count (omega (arith, reads counts u held l.known was)) (omega arith) long
+        (rewritten s u count a (omega arith) new (leaving v row) long (omega arith) (ap (take (length (leaving v row))) is_new ∙ take_at (leaving v row) rest (length (leaving v row)) refl)
+        (λ y. not (eqb y v) && has y row) (λ x y. not (eqb x u && eqb y v) && links s x y) (tidy_leaving s.n v b row tidy out) (has_leaving s.n v b row tidy out)
+        (λ x y. one_less (eqb x u) (eqb y v) (has y row) (links s x y) (row_linked x y)))

@@ -1,20 +1,8 @@
--- Tests on a pair of persons, and what a pair more or less leaves of the laws of links. Assumes nothing.
-use Rattle.std.proofs.Common.{◌≡◌, ℕ, Bool, true, false, cond, not, ◌&&◌, ◌||◌, eqb, sym, refl, ap, ◌∙◌, ap₂, inl, inr}
-use Rattle.std.proofs.lemmas.Bool.{cases_eq, ne_eqb, and_left, and_right, or_from}
+-- What a pair more or less leaves of the laws of links. Assumes nothing.
+use Rattle.std.proofs.Common.{◌≡◌, ℕ, Bool, true, false, cond, not, ◌&&◌, ◌||◌, refl, ap, arith}
+use Rattle.std.proofs.lemmas.Bool.Decides.{nat_tests}
 use Rattle.networks.specs.Changes.{is_pair}
 use Rattle.rows.specs.Rows.{Apart, Bothways}
-
-and_swap : (a b : Bool) → (a && b) ≡ (b && a)
-and_swap true true = refl
-and_swap true false = refl
-and_swap false true = refl
-and_swap false false = refl
-
-or_swap : (a b : Bool) → (a || b) ≡ (b || a)
-or_swap true true = refl
-or_swap true false = refl
-or_swap false true = refl
-or_swap false false = refl
 
 -- one row more or less, as a test on ordered pairs
 pub one_more : (e a h l : Bool) → (e ≡ true → h ≡ l) → cond e (a || h) l ≡ ((e && a) || l)
@@ -27,36 +15,17 @@ one_less false a h l f = refl
 
 -- both ordered pairs are the pair
 pub both_more : (a b l : Bool) → (b || (a || l)) ≡ ((a || b) || l)
-both_more true true l = refl
-both_more true false l = refl
-both_more false true l = refl
-both_more false false l = refl
-
-pub both_less : (a b l : Bool) → (not b && (not a && l)) ≡ (not (a || b) && l)
-both_less true true l = refl
-both_less true false l = refl
-both_less false true l = refl
-both_less false false l = refl
-
-pair_swap : (u v x y : ℕ) → is_pair u v x y ≡ is_pair u v y x
-pair_swap u v x y = or_swap (eqb x u && eqb y v) (eqb x v && eqb y u) ∙ ap₂ (λ a b. a || b) (and_swap (eqb x v) (eqb y u)) (and_swap (eqb x u) (eqb y v))
-
-not_both : (u v x : ℕ) → (u ≡ v → ⊥) → (eqb x u && eqb x v) ≡ false
-not_both u v x ne = elim (cases_eq x u) [
-  | inl e ↦ and_right (eqb x u) (eqb x v) (ne_eqb x v (λ f. ne (sym e ∙ f)))
-  | inr d ↦ and_left (eqb x u) (eqb x v) (ne_eqb x u d)
-]
+both_more a b l = grind (arith, nat_tests)
 
 module _ (linked : ℕ → ℕ → Bool) (u v : ℕ) where
   pub apart_more : (u ≡ v → ⊥) → Apart linked → Apart (λ x y. is_pair u v x y || linked x y)
-  apart_more ne apart x = or_from (is_pair u v x x) (linked x x)
-      (or_from (eqb x u && eqb x v) (eqb x v && eqb x u) (not_both u v x ne) (not_both v u x (λ e. ne (sym e)))) (apart x)
+  apart_more ne apart x = let h = apart x in grind (arith, nat_tests)
 
   pub bothways_more : Bothways linked → Bothways (λ x y. is_pair u v x y || linked x y)
-  bothways_more both x y = ap₂ (λ a b. a || b) (pair_swap u v x y) (both x y)
+  bothways_more both x y = let h = both x y in grind (arith, nat_tests)
 
   pub apart_less : Apart linked → Apart (λ x y. not (is_pair u v x y) && linked x y)
-  apart_less apart x = and_right (not (is_pair u v x x)) (linked x x) (apart x)
+  apart_less apart x = let h = apart x in grind (arith, nat_tests)
 
   pub bothways_less : Bothways linked → Bothways (λ x y. not (is_pair u v x y) && linked x y)
-  bothways_less both x y = ap₂ (λ a b. not a && b) (pair_swap u v x y) (both x y)
+  bothways_less both x y = let h = both x y in grind (arith, nat_tests)

@@ -2,3 +2,4 @@ pub mod Row
 pub mod Rows
 pub mod Sound
 pub mod Memory
+pub mod Tidy

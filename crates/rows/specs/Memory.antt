@@ -2,7 +2,7 @@
 --     sizes_of span counts cells grades     what the opening check goes by
 --     refusal_for n span counts cells grades    6 for too many persons or too long rows, else 7 for a memory that is short
 --     refusal_by n sizes          the same, by the sizes as a list
---     fixed_in n span counts cells grades   the sizes, the span as the ceiling, and what lies behind
+--     fixed_in frame grades       the sizes, the span as the ceiling, and what lies behind
 --     Begins xs cells             cells begins with xs, and is free behind it
 --     HoldsNet net f span counts cells grades     the memory holds just this network
 use Rattle.std.specs.Prelude.{◌≡◌, ℕ, ◌*◌, ◌<◌, cond, ◌||◌, List, [], ◌∷◌, ◌++◌, map, length, take, drop, Some, None, Option, nat_lt, slice_index}
@@ -11,6 +11,7 @@ use Rattle.faults.specs.declared.call_fault.CallFault.{CallFault}
 use Rattle.faults.specs.declared.call_fault.CallFault.TheVariants.{TooLarge, ShortMemory}
 use Rattle.networks.specs.Fixed.{Fixed}
 use Rattle.networks.specs.Net.{Net, neighbours, degree_of}
+use Rattle.rows.specs.Rows.{Frame}
 
 abbrev pub sizes_of : {G : Type 0} → ℕ → List ℕ → List ℕ → List G → List ℕ
 sizes_of span counts cells grades = span ∷ length counts ∷ length cells ∷ length grades ∷ []
@@ -23,12 +24,12 @@ refusal_for n span counts cells grades =
 abbrev pub refusal_by : ℕ → List ℕ → Option CallFault
 refusal_by n sizes = refusal_for n (slice_index sizes 0) (slice_index sizes 1) (slice_index sizes 2) (slice_index sizes 3)
 
-abbrev pub fixed_in : {G : Type 0} → ℕ → ℕ → List ℕ → List ℕ → List G → Fixed G
-fixed_in n span counts cells grades = record {
-  sizes = sizes_of span counts cells grades;
-  ceiling = span;
-  grades_behind = drop n grades;
-  cells_behind = drop n counts ∷ drop (n * span) cells ∷ [];
+abbrev pub fixed_in : {G : Type 0} → Frame → List G → Fixed G
+fixed_in frame grades = record {
+  sizes = frame.span ∷ frame.counts ∷ frame.cells ∷ length grades ∷ [];
+  ceiling = frame.span;
+  grades_behind = drop frame.persons grades;
+  cells_behind = frame.counts_behind ∷ frame.cells_behind ∷ [];
 }
 
 abbrev pub Begins : List ℕ → List ℕ → Type 0

@@ -1,60 +1,35 @@
 // Adjacency rows as a network for changing: the ceiling is the span.
 ghost use Rattle.std.proofs.Common.{refl};
 
-use crate::pairs::{join, sever};
 use crate::rows::AdjacencyRows;
 use faults::CallFault;
 use grades::Grade;
-use networks::{Changing, Network};
+use networks::Changing;
+use networks::checks::{check_link, check_regrade, check_unlink};
 
 impl<G: Grade + Drop> Changing for AdjacencyRows<G> {
-    ghost ceiling_of = { λ s. s.span };
+    ghost ceiling_of = { λ s. s.rows.span };
 
     ghost settled = { λ s. refl };
 
     fn ceiling(&self) -> usize {
-        self.span
+        self.rows.span
     }
 
     fn link(&mut self, u: usize, v: usize) -> Result<(), CallFault> {
-        let n = self.n;
-        if u >= n || v >= n {
-            return Err(CallFault::NoSuchPerson);
-        }
-        if u == v {
-            return Err(CallFault::SamePerson);
-        }
-        if self.linked(u, v) {
-            return Err(CallFault::AlreadyLinked);
-        }
-        let span = self.span;
-        if self.degree(u) >= span || self.degree(v) >= span {
-            return Err(CallFault::AtCeiling);
-        }
-        join(&mut self.counts, &mut self.cells, span, u, v);
+        check_link(self, u, v, self.rows.span)?;
+        self.rows.join(u, v);
         Ok(())
     }
 
     fn unlink(&mut self, u: usize, v: usize) -> Result<(), CallFault> {
-        let n = self.n;
-        if u >= n || v >= n {
-            return Err(CallFault::NoSuchPerson);
-        }
-        if u == v {
-            return Err(CallFault::SamePerson);
-        }
-        if !self.linked(u, v) {
-            return Err(CallFault::NotLinked);
-        }
-        let span = self.span;
-        sever(&mut self.counts, &mut self.cells, span, u, v);
+        check_unlink(self, u, v)?;
+        self.rows.sever(u, v);
         Ok(())
     }
 
     fn regrade(&mut self, u: usize, grade: G) -> Result<(), CallFault> {
-        if u >= self.n {
-            return Err(CallFault::NoSuchPerson);
-        }
+        check_regrade(self, u)?;
         self.grades[u] = grade;
         Ok(())
     }

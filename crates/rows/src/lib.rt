@@ -4,8 +4,8 @@
 mod cells;
 pub mod changing;
 pub mod opening;
-mod pairs;
 pub mod reading;
 pub mod rows;
+mod tidy;
 
 pub use rows::{AdjacencyRows, RowsMemory};

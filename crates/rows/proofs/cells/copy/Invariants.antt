@@ -1,5 +1,5 @@
-use Rattle.std.proofs.Common.{◌≡◌, ◌++◌, take, drop}
+use Rattle.std.proofs.Common.{◌≡◌, take}
 use Rattle.rows.proofs.cells.copy.Given as goal
 
 abbrev pub invariant-loop-i : goal.invariant-loop-i
-invariant-loop-i l = l.places ≡ take l.i l.row ++ drop l.i l.initial.places
+invariant-loop-i l = take l.i l.place-items ≡ take l.i l.row

@@ -1,12 +1,13 @@
-use Rattle.std.proofs.Common.{ℕ, ◌<◌, ◌≤◌, length, get_or, arith}
-use Rattle.rows.proofs.Shifts.{place_is}
+use Rattle.std.proofs.Common.{ℕ, ltb, ltb-true, ltb-false, arith, rules}
+use Rattle.std.proofs.lemmas.List.Sorted.{IsPartitionPoint-from_clause, IsPartitionedBy-ltb}
+use Rattle.rows.proofs.Standing.{ordered, place_is}
 use Rattle.rows.proofs.cells.place.Goals as goal
 
 pub returns : goal.returns
 returns c =
-    let i = c.loop-low.invariant in
     let row = c.args.row.now in
-    let low = c.loop-low.low in
-    let in' : low ≤ length row = omega arith in
-    let above : (k : ℕ) → low ≤ k → k < length row → c.args.v ≤ get_or row k 0 = λ k h l. i.3 k (omega arith) l in
-    record { value = place_is row c.args.v low in' i.2 above; within = in'; below = i.2; above = above }
+    let parted = IsPartitionedBy-ltb (λ (x : ℕ). x) row c.args.v (ordered row c.requires) in
+    let point = IsPartitionPoint-from_clause (λ x. ltb x c.args.v) row c.partition_point.result c.partition_point.ensures.partitioned parted (λ a r q k. search rules) in
+    place_is row c.args.v c.partition_point.result c.partition_point.ensures.bound
+    (λ k h. ltb-true _ _ (point.0 k 0 (omega arith) h))
+    (λ k h l. ltb-false _ _ (point.1 k 0 h l))

@@ -1,12 +1,9 @@
-use Rattle.rows.proofs.Standing.{has_here, has_past}
+use Rattle.std.proofs.Common.{◌∙◌, rules}
+use Rattle.std.proofs.lemmas.List.Sorted.{answers_always}
+use Rattle.rows.proofs.Standing.{found_has}
 use Rattle.rows.proofs.cells.stands.Goals as goal
 
-pub returns-then-at-row : goal.returns-then-at-row
-returns-then-at-row c =
-    let p = c.place-at.ensures in
-    has_here c.args.row.now c.args.v c.place-at.result p.below p.above c.requires c.if-at-row.true
-
-pub returns-else-at-row : goal.returns-else-at-row
-returns-else-at-row c =
-    let p = c.place-at.ensures in
-    has_past c.args.row.now c.args.v c.place-at.result p.below p.above c.if-at-row.false
+pub returns : goal.returns
+returns c =
+    let position = c.binary_search_by_key.ensures.position (λ x. x) (answers_always _ _ _ (λ f a r g h. search rules)) in
+    c.is_ok.ensures.value ∙ found_has c.args.row.now c.args.v c.binary_search_by_key.result position c.requires

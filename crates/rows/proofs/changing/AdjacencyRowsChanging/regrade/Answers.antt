@@ -1,20 +1,13 @@
-use Rattle.std.proofs.Common.{sym, ap, ◌∙◌}
-use Rattle.faults.specs.Answers.{answered, unless}
-use Rattle.networks.specs.Changes.{with_grade}
-use Rattle.networks.proofs.Refusals.{regrade_granted}
-use Rattle.rows.specs.Rows.{net_in}
-use Rattle.rows.proofs.Grading.{net_graded, fixed_graded}
+use Rattle.std.proofs.Common.{sym, ◌∙◌}
+use Rattle.networks.specs.Changes.{with_grade, regrade_fault}
+use Rattle.rows.specs.Tidy.{net_of}
+use Rattle.rows.proofs.Granted.{granted_is}
+use Rattle.rows.proofs.Grading.{net_graded}
 use Rattle.rows.proofs.changing.AdjacencyRowsChanging.regrade.Goals as goal
 
-pub returns : goal.returns
-returns g c =
+pub returns-clause-network : goal.returns-clause-network
+returns-clause-network g c =
     let s = c.args.self.now in
-    let u = c.args.u in
-    let net = net_in s.n s.span s.counts.items s.cells.items s.grades.items in
-    let granted = regrade_granted net u c.if-u-self.false in
-    record {
-      cases = sym (ap (λ f. answered f tt) granted);
-      network = net_graded s.n s.span s.counts.items s.cells.items s.grades.items u c.args.grade
-          ∙ sym (ap (λ f. unless f (with_grade net u c.args.grade) net) granted);
-      fixed = fixed_graded s.n s.span s.counts.items s.cells.items s.grades.items u c.args.grade c.if-u-self.false;
-    }
+    let net = net_of s.rows s.grades.items in
+    net_graded s.rows s.grades.items c.args.u c.args.grade
+    ∙ granted_is (regrade_fault net c.args.u) (with_grade net c.args.u c.args.grade) net (sym c.check_regrade.ensures ∙ c.in_ok-check_regrade.was)

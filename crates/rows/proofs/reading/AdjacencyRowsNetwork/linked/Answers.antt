@@ -7,4 +7,4 @@ pub returns : goal.returns
 returns g c =
     let s = c.args.self.now in
     c.stands.ensures ∙ ap (has c.args.v) c.row.ensures.value
-    ∙ near_linked s.n s.span s.counts.items s.cells.items s.bothways c.args.u c.args.v
+    ∙ near_linked s.rows.n s.rows.span s.rows.counts.items s.rows.cells.items s.bothways c.args.u c.args.v
