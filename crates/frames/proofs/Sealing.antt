@@ -5,8 +5,7 @@ use borrow.Rule.Slice.PartMut.{put_mid}
 use Rattle.grades.specs.Places.{onto}
 use Rattle.frames.specs.declared.frame.Frame.{Frame}
 use Rattle.frames.specs.Frames.{framed, check_of}
-use Rattle.frames.specs.declared.line.Line.{Line}
-use Rattle.frames.specs.Lines.{padded, frame_of, held, line_of, typed, shown}
+use Rattle.frames.specs.Lines.{padded, frame_of}
 use Rattle.frames.proofs.Checks.{length_framed}
 
 pub sealed : (xs bs : List ℕ) (n c : ℕ) → n ≤ 32 → length xs + 1 ≡ n → bs ≡ padded xs → c ≡ check_of (take (n - 1) bs) → ◌≡◌ {A = Frame} (record { bytes = set bs (n - 1) c; len = n }) (frame_of (framed xs))
@@ -21,9 +20,6 @@ sealed xs bs n c m l e p =
     ap (λ b. set b (n - 1) c) whole ∙ set_at xs 0 zeros c (n - 1) (sym i) ∙ ap (λ x. xs ++ x ∷ zeros) (p ∙ ap check_of front)
     ∙ sym (append_assoc xs (check_of xs ∷ []) zeros) ∙ ap (λ j. framed xs ++ replicate (32 - j) 0) (sym long) in
     ap (λ b. record { bytes = b; len = n }) put ∙ ap (λ j. record { bytes = padded (framed xs); len = j }) (sym long)
-
-held_frame : (bs : List ℕ) → held (frame_of bs) ≡ bs
-held_frame bs = take_at bs (replicate (32 - length bs) 0) (length bs) refl
 
 onto_zeros : (xs : List ℕ) (n : ℕ) → length xs ≤ n → onto xs (replicate n 0) ≡ xs ++ replicate (n - length xs) 0
 onto_zeros xs n h =
@@ -43,9 +39,3 @@ part_more xs part row places n l h e w =
     let less : 32 - length xs - length part ≡ 32 - length (xs ++ part) = (let m = length-append xs part in omega arith) in
     let written : places ≡ part ++ replicate (32 - length (xs ++ part)) 0 = w ∙ ap (onto part) lent ∙ onto_zeros part (32 - length xs) (omega arith) ∙ ap (λ k. part ++ replicate k 0) less in
     ap (λ t. t ++ (places ++ drop (32 - n) (drop n row))) front ∙ ap (λ t. xs ++ (places ++ t)) behind ∙ ap (λ t. xs ++ t) (append-nil places ∙ written) ∙ sym (append_assoc xs part (replicate (32 - length (xs ++ part)) 0))
-
-pub shown_typed : (cs : List ℕ) → shown (typed cs) ≡ cs
-shown_typed cs = take_at cs (replicate (64 - length cs) 0) (length cs) refl
-
-pub line_written : (f : Frame) (l : Line) (bs : List ℕ) → l ≡ typed (line_of (held f)) → f ≡ frame_of bs → l ≡ typed (line_of bs)
-line_written f l bs e p = e ∙ ap (λ g. typed (line_of (held g))) p ∙ ap (λ x. typed (line_of x)) (held_frame bs)

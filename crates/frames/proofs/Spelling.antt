@@ -1,8 +1,7 @@
 -- One turn of the line reader and of the line writer. Assumes nothing.
-use Rattle.std.proofs.Common.{◌≡◌, ℕ, zero, suc, ◌+◌, ◌-◌, ◌*◌, ◌/◌, ◌%◌, ◌<◌, ◌≤◌, min, Bool, true, false, cond, ◌&&◌, List, [], ◌∷◌, ◌++◌, length, get_or, take, drop, set, replicate, Some, None, Ok, Err, Result, sym, refl, ap, ◌∙◌, inl, inr, arith}
+use Rattle.std.proofs.Common.{◌≡◌, ℕ, zero, suc, ◌+◌, ◌-◌, ◌*◌, ◌/◌, ◌%◌, ◌<◌, ◌≤◌, Bool, true, false, cond, ◌&&◌, List, [], ◌∷◌, ◌++◌, length, get_or, take, drop, set, replicate, Some, None, Ok, Err, Result, sym, refl, ap, ◌∙◌, arith}
 use Rattle.std.proofs.lemmas.List.{append_assoc, append-nil, length-take-le, drop_all, drop-drop, drop_more, drop-replicate, drop-set-lt, get_or-drop, get_or-take, set-append_right, take_all, take-append-drop, take_more, take_more_set}
 use Rattle.std.specs.Simd.{first_chunks}
-use Rattle.std.proofs.lemmas.Bool.{cases_lt}
 use Rattle.std.proofs.lemmas.Bool.Decides.{nat_tests}
 use Rattle.frames.specs.declared.fault.LineFault.{LineFault}
 use Rattle.frames.specs.declared.fault.LineFault.TheVariants.{WrongSize, NoDigit}
@@ -113,12 +112,6 @@ line_more bs text i a b l m p q e =
     ∙ ap (λ t. set t (2 * i + 1) b) (set-append_right front (0 ∷ 0 ∷ rest) (2 * i) (2 * i) a n (omega arith) ∙ ap (λ j. front ++ set (0 ∷ 0 ∷ rest) j a) zero_places)
     ∙ set-append_right front (a ∷ 0 ∷ rest) (2 * i) (2 * i + 1) b n (omega arith) ∙ ap (λ j. front ++ set (a ∷ 0 ∷ rest) j b) one_place
     ∙ sym (ap (λ t. line_of t ++ rest) (take_more bs i 0 l) ∙ ap (λ t. t ++ rest) (line_append (take i bs) (get_or bs i 0 ∷ [])) ∙ append_assoc front (letter_of (get_or bs i 0 / 16 % 16) ∷ letter_of (get_or bs i 0 % 16) ∷ []) rest ∙ sym (ap (λ x. front ++ x ∷ b ∷ rest) p ∙ ap (λ x. front ++ letter_of (get_or bs i 0 / 16 % 16) ∷ x ∷ rest) q))
-
-pub take_min : (xs : List ℕ) (n m : ℕ) → length xs ≡ m → take (min n m) xs ≡ take n xs
-take_min xs n m e = elim (cases_lt n m) [
-  | inl h ↦ ap (λ k. take k xs) (omega arith)
-  | inr h ↦ ap (λ k. take k xs) (omega arith) ∙ take_all m xs (omega arith) ∙ sym (take_all n xs (omega arith))
-]
 
 pub line_all : (bs text : List ℕ) (i : ℕ) → i ≡ length bs → text ≡ line_of (take i bs) ++ replicate (64 - 2 * i) 0 → ◌≡◌ {A = Line} (record { text = text; len = 2 * length bs }) (typed (line_of bs))
 line_all bs text i j t =

@@ -1,5 +1,5 @@
 -- Fields of two and four bytes, read and written, and the front of a frame as its bytes: lemmas for the laws of messages. Assumes nothing.
-use Rattle.std.proofs.Common.{◌≡◌, ℕ, ◌+◌, ◌-◌, ◌*◌, ◌/◌, ◌%◌, ◌<◌, ◌≤◌, Bool, true, false, cond, eqb, ◌⊎◌, List, [], ◌∷◌, ◌++◌, map, length, get_or, take, drop, is_some, Some, Option, sym, refl, ap, ◌∙◌, subst, inl, inr, arith}
+use Rattle.std.proofs.Common.{◌≡◌, ℕ, ◌+◌, ◌-◌, ◌*◌, ◌/◌, ◌%◌, ◌<◌, ◌≤◌, Bool, true, false, cond, eqb, List, [], ◌∷◌, ◌++◌, map, length, get_or, take, drop, is_some, Some, None, Option, sym, refl, ap, ◌∙◌, subst, inl, inr, arith}
 use Rattle.std.specs.List.{range_with_len, AllByRecursion}
 use Rattle.std.proofs.lemmas.List.FromFn.{fill_by_all}
 use Rattle.std.proofs.ByRecursion.{All-get_or}
@@ -88,12 +88,15 @@ pub landed : {X : Type 0} (P : X → Type 0) (a q : X) → Some a ≡ Some q →
 landed P a q e p = let same : a ≡ q = cc in subst P same p
 
 -- one entry of a list of kinds: it is this kind, or one of the rest
-pub either_kind : {X : Type 0} (k n : ℕ) (a rest : Option X) (q : X) → cond (eqb k n) a rest ≡ Some q → ((k ≡ n) × (a ≡ Some q)) ⊎ (rest ≡ Some q)
-either_kind k n a rest q = go (eqb k n) refl
+pub this_kind : {X Y : Type 0} (k n : ℕ) (a rest : Option X) (q : X) → (k ≡ n → a ≡ Some q → Y) → (rest ≡ Some q → Y) → cond (eqb k n) a rest ≡ Some q → Y
+this_kind {Y = Y} k n a rest q this other = go (eqb k n) refl
   where
-    go : (t : Bool) → eqb k n ≡ t → cond t a rest ≡ Some q → ((k ≡ n) × (a ≡ Some q)) ⊎ (rest ≡ Some q)
-    go true e p = inl (eqb-true k n e, p)
-    go false e p = inr p
+    go : (t : Bool) → eqb k n ≡ t → cond t a rest ≡ Some q → Y
+    go true e p = this (eqb-true k n e) p
+    go false e p = other p
+
+pub no_kind : {X Y : Type 0} (q : X) → None ≡ Some q → Y
+no_kind q e = let z : ◌≡◌ {A = ℕ} 0 1 = cc in absurd (omega arith)
 
 pub some_kind : {X : Type 0} (k n : ℕ) (a rest : Option X) → (k ≡ n → is_some a ≡ true) → ((k ≡ n → ⊥) → is_some rest ≡ true) → is_some (cond (eqb k n) a rest) ≡ true
 some_kind k n a rest f g = go (eqb k n) refl

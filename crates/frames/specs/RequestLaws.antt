@@ -1,13 +1,13 @@
 -- Requests are read from the bytes that they are written as, and from no others. Assumes nothing.
 use Rattle.std.specs.Prelude.{◌≡◌, ℕ, ◌+◌, ◌-◌, ◌<◌, List, ◌∷◌, ◌++◌, length, take, drop, Some, None, Option, refl}
 use Rattle.std.specs.List.{AllByRecursion}
-use Rattle.std.proofs.Common.{[], ap, ◌∙◌, inl, inr, arith}
+use Rattle.std.proofs.Common.{[], ap, ◌∙◌, arith}
 use Rattle.std.proofs.ByRecursion.{All-take, All-drop}
 use Rattle.std.proofs.lemmas.List.{take_at}
 use Rattle.grades.specs.Places.{Byte}
 use Rattle.frames.specs.declared.request.Request.{Request}
 use Rattle.frames.specs.declared.request.Request.TheVariants.{Open, Regrade, Link, Unlink, Peel, Plant, Pick, Cores, Holder}
-use Rattle.frames.specs.Fields.{byte_at, word_back, word_at_lem, landed, no_field, one_word, two_words, two_words_byte, one_word_rest, either_kind}
+use Rattle.frames.specs.Fields.{byte_at, word_back, word_at_lem, landed, no_field, one_word, two_words, two_words_byte, one_word_rest, this_kind, no_kind}
 use Rattle.frames.specs.Frames.{kind_in, bytes16, word_at, framed, check_of}
 use Rattle.frames.specs.Kinds.{length_of}
 use Rattle.frames.specs.Requests.{request_bytes, request_of, regraded, RequestFits}
@@ -44,41 +44,15 @@ module _ {G : Type 0} (In : G → Type 0) (put : G → List ℕ) (get : List ℕ
         landed Fits _ q e (((first_word, ranged _ g part p)), ap (λ x. 2 ∷ bytes16 (word_at bs 1) ++ x) (spells _ g part p) ∙ one_word_rest bs h 2 k size l)
 
     pub request_forth : length bs ≡ length_of size (kind_in bs) → request_of get size bs ≡ Some q → Fits q
-    request_forth l e =
-        elim (either_kind (kind_in bs) 1 _ _ q e) [
-          | inl c ↦ landed Fits _ q c.1 (first_word, one_word bs h 1 c.0 (l ∙ ap (length_of size) c.0))
-          | inr e2 ↦
-              elim (either_kind (kind_in bs) 2 _ _ q e2) [
-                | inl c ↦ regraded_forth _ refl c.0 (l ∙ ap (length_of size) c.0) c.1
-                | inr e3 ↦
-                    elim (either_kind (kind_in bs) 3 _ _ q e3) [
-                      | inl c ↦ landed Fits _ q c.1 ((first_word, second_word), two_words bs h 3 c.0 (l ∙ ap (length_of size) c.0))
-                      | inr e4 ↦
-                          elim (either_kind (kind_in bs) 4 _ _ q e4) [
-                            | inl c ↦ landed Fits _ q c.1 ((first_word, second_word), two_words bs h 4 c.0 (l ∙ ap (length_of size) c.0))
-                            | inr e5 ↦
-                                elim (either_kind (kind_in bs) 5 _ _ q e5) [
-                                  | inl c ↦ landed Fits _ q c.1 ((first_word, second_word, byte_at bs h 5), two_words_byte bs h 5 c.0 (l ∙ ap (length_of size) c.0))
-                                  | inr e6 ↦
-                                      elim (either_kind (kind_in bs) 6 _ _ q e6) [
-                                        | inl c ↦ landed Fits _ q c.1 (tt, no_field bs h 6 c.0 (l ∙ ap (length_of size) c.0))
-                                        | inr e7 ↦
-                                            elim (either_kind (kind_in bs) 7 _ _ q e7) [
-                                              | inl c ↦ landed Fits _ q c.1 ((first_word, second_word, byte_at bs h 5), two_words_byte bs h 7 c.0 (l ∙ ap (length_of size) c.0))
-                                              | inr e8 ↦
-                                                  elim (either_kind (kind_in bs) 8 _ _ q e8) [
-                                                    | inl c ↦ landed Fits _ q c.1 (tt, no_field bs h 8 c.0 (l ∙ ap (length_of size) c.0))
-                                                    | inr e9 ↦
-                                                        elim (either_kind (kind_in bs) 9 _ _ q e9) [
-                                                          | inl c ↦ landed Fits _ q c.1 ((first_word, second_word), two_words bs h 9 c.0 (l ∙ ap (length_of size) c.0))
-                                                          | inr e10 ↦
-                                                              (let z : ◌≡◌ {A = ℕ} 0 1 = cc in absurd (omega arith))
-                                                        ]
-                                                  ]
-                                            ]
-                                      ]
-                                ]
-                          ]
-                    ]
-              ]
-        ]
+    request_forth l =
+        let k = kind_in bs in
+        this_kind k 1 _ _ q (λ c m. landed Fits _ q m (first_word, one_word bs h 1 c (l ∙ ap (length_of size) c)))
+        (this_kind k 2 _ _ q (λ c m. regraded_forth _ refl c (l ∙ ap (length_of size) c) m)
+        (this_kind k 3 _ _ q (λ c m. landed Fits _ q m ((first_word, second_word), two_words bs h 3 c (l ∙ ap (length_of size) c)))
+        (this_kind k 4 _ _ q (λ c m. landed Fits _ q m ((first_word, second_word), two_words bs h 4 c (l ∙ ap (length_of size) c)))
+        (this_kind k 5 _ _ q (λ c m. landed Fits _ q m ((first_word, second_word, byte_at bs h 5), two_words_byte bs h 5 c (l ∙ ap (length_of size) c)))
+        (this_kind k 6 _ _ q (λ c m. landed Fits _ q m (tt, no_field bs h 6 c (l ∙ ap (length_of size) c)))
+        (this_kind k 7 _ _ q (λ c m. landed Fits _ q m ((first_word, second_word, byte_at bs h 5), two_words_byte bs h 7 c (l ∙ ap (length_of size) c)))
+        (this_kind k 8 _ _ q (λ c m. landed Fits _ q m (tt, no_field bs h 8 c (l ∙ ap (length_of size) c)))
+        (this_kind k 9 _ _ q (λ c m. landed Fits _ q m ((first_word, second_word), two_words bs h 9 c (l ∙ ap (length_of size) c)))
+        (no_kind q)))))))))

@@ -5,7 +5,7 @@ ghost use Rattle.frames.specs.Examples.{Stands};
 
 use crate::frame::Frame;
 
-#[derive(Clone, Copy)]
+#[derive(Clone, Copy, PartialEq, Eq, Debug)]
 pub struct Example {
     pub kind: u8,
     pub frame: Frame,

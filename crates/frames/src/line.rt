@@ -7,7 +7,7 @@ use crate::fault::LineFault;
 use crate::frame::Frame;
 
 // The characters in front, and how many there are: by value, so that nothing is allocated.
-#[derive(Clone, Copy)]
+#[derive(Clone, Copy, PartialEq, Eq, Debug)]
 pub struct Line {
     pub text: [u8; 64],
     pub len: usize,
@@ -29,6 +29,7 @@ pub(crate) fn read_line(line: &[u8], frame: &mut Frame) -> Result<(), LineFault>
     }
     let (pairs, _) = line.as_chunks::<2>();
     let mut bytes = [0u8; 32];
+    // By index: a proof knows nothing of an array whose places a zip lent.
     for (i, [high, low]) in pairs.iter().enumerate() {
         let high = digit(*high as char)?;
         let low = digit(*low as char)?;
@@ -46,7 +47,7 @@ pub(crate) fn write_line(frame: &Frame) -> Line
 {
     let bytes = frame.contents();
     let mut text = [0u8; 64];
-    // By index: of what as_chunks_mut lends, nothing is known once it is written.
+    // By index: as_chunks_mut says nothing of what the text ends as.
     for (i, b) in bytes.iter().enumerate() {
         text[2 * i] = letter(b / 16);
         text[2 * i + 1] = letter(*b);

@@ -54,7 +54,7 @@ impl TryFrom<u8> for RequestKind {
     }
 }
 
-#[derive(Clone, Copy)]
+#[derive(Clone, Copy, PartialEq, Eq, Debug)]
 pub enum Request<G> {
     Open { n: u16 },
     Regrade { person: u16, grade: G },
