@@ -11,7 +11,8 @@ use Rattle.frames.specs.declared.frame.Frame.{Frame}
 use Rattle.frames.specs.Exact.{Exact, refusal_in}
 use Rattle.frames.specs.Frames.{kind_in, framed, check_of, frame_fault}
 use Rattle.frames.specs.Lines.{line_of, bytes_in, line_fault, granted, unless, held, frame_of, frame_after}
-use Rattle.frames.specs.Reading.{first_refusal, meant, answered, reading}
+use Rattle.frames.specs.Reading.{first_refusal, answered, reading}
+use Rattle.frames.specs.Refusals.{meant}
 use Rattle.frames.proofs.Checks.{framed_sum, framed_bytes, length_framed, unframed, frame_means, frame_granted}
 use Rattle.frames.proofs.Letters.{spelt_line, bytes_back, line_granted}
 

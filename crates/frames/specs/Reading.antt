@@ -4,20 +4,20 @@
 --     first_refusal o p           the first refusal of a line, or else of its frame
 --     request_refusal size cs     the first refusal of a line that is sent to a program
 --     reply_refusal cs            .. of one that a program printed
---     meant m                     what a frame means, or that it is of no kind
 --     answered o m                the answer: the refusal, or what the frame means
 --     reading known long m cs     what a line is read as, by which kinds are known, how long they are and what frames mean
 --     read_request get size cs    the request in the line, or the line's first refusal
 --     read_reply cs               the reply in the line, or its first refusal; an FF of no layer is of no kind
-use Rattle.std.specs.Prelude.{ℕ, Bool, List, Some, None, Ok, Err, Option, Result}
+use Rattle.std.specs.Prelude.{ℕ, Bool, List, Some, None, Err, Option, Result}
 use Rattle.frames.specs.declared.fault.FrameFault.{FrameFault}
-use Rattle.frames.specs.declared.fault.FrameFault.TheVariants.{Line, UnknownKind}
+use Rattle.frames.specs.declared.fault.FrameFault.TheVariants.{Line}
 use Rattle.frames.specs.declared.fault.LineFault.{LineFault}
 use Rattle.frames.specs.declared.reply.Reply.{Reply}
 use Rattle.frames.specs.declared.request.Request.{Request}
 use Rattle.frames.specs.Frames.{kind_in, frame_fault}
 use Rattle.frames.specs.Kinds.{is_request, is_reply, table_length, length_of}
 use Rattle.frames.specs.Lines.{bytes_in, line_fault}
+use Rattle.frames.specs.Refusals.{meant}
 use Rattle.frames.specs.Replies.{reply_of}
 use Rattle.frames.specs.Requests.{request_of}
 
@@ -36,10 +36,6 @@ request_refusal size cs = first_refusal (line_fault cs) (request_fault size (byt
 
 abbrev pub reply_refusal : List ℕ → Option FrameFault
 reply_refusal cs = first_refusal (line_fault cs) (reply_fault (bytes_in cs))
-
-abbrev pub meant : {X : Type 0} → Option X → Result X FrameFault
-meant None = Err UnknownKind
-meant (Some x) = Ok x
 
 abbrev pub answered : {X : Type 0} → Option FrameFault → Option X → Result X FrameFault
 answered (Some e) m = Err e

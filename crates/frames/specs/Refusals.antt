@@ -2,7 +2,7 @@
 --     fault_number f, fault_layer f the number of the refusal f, and the layer that it comes from
 --     layer_number l              the number of the layer
 --     layer_of b                  the layer of that number
---     named o                     what a number names, or that it names no kind
+--     meant o                     what is meant, or that it is of no kind
 use Rattle.std.specs.Prelude.{ℕ, cond, Some, None, Ok, Err, Option, Result, ◌==◌}
 use Rattle.frames.specs.declared.fault.LineFault.TheVariants.{WrongSize, NoDigit}
 use Rattle.frames.specs.declared.fault.FrameFault.{FrameFault}
@@ -31,6 +31,6 @@ layer_number layer.Call = 3
 abbrev pub layer_of : ℕ → Option Layer
 layer_of b = cond (b == 1) (Some layer.Line) (cond (b == 2) (Some layer.Frame) (cond (b == 3) (Some layer.Call) None))
 
-abbrev pub named : {X : Type 0} → Option X → Result X FrameFault
-named None = Err UnknownKind
-named (Some x) = Ok x
+abbrev pub meant : {X : Type 0} → Option X → Result X FrameFault
+meant None = Err UnknownKind
+meant (Some x) = Ok x

@@ -1,7 +1,7 @@
 // What a line and a frame can be refused for, in the order of the numbers 1 to 5.
 ghost use Rattle.std.specs.Prelude.{◌≡◌};
 ghost use Rattle.frames.specs.declared.fault.FrameFault.TheVariants.{Line};
-ghost use Rattle.frames.specs.Refusals.{fault_number, fault_layer, layer_number, named, layer_of};
+ghost use Rattle.frames.specs.Refusals.{fault_number, fault_layer, layer_number, layer_of, meant};
 
 #[derive(Clone, Copy, PartialEq, Eq, Debug)]
 pub enum LineFault {
@@ -77,7 +77,7 @@ impl From<Layer> for u8 {
 impl TryFrom<u8> for Layer {
     type Error = FrameFault;
 
-    ghost try_from_gives = { λ b r. r ≡ named (layer_of b) };
+    ghost try_from_gives = { λ b r. r ≡ meant (layer_of b) };
 
     fn try_from(number: u8) -> Result<Layer, FrameFault> {
         match number {

@@ -6,7 +6,7 @@ ghost use Rattle.frames.specs.declared.fault.FrameFault.{FrameFault};
 ghost use Rattle.frames.specs.Lines.{held, padded};
 ghost use Rattle.frames.specs.Frames.{kind_in, framed};
 ghost use Rattle.frames.specs.Kinds.{KindRead};
-ghost use Rattle.frames.specs.Reading.{meant};
+ghost use Rattle.frames.specs.Refusals.{meant};
 
 use crate::fault::FrameFault;
 use crate::frame::Frame;
