@@ -39,7 +39,7 @@ impl<G: Grade + Drop> Opening for AdjacencyRows<G> {
     }
 
     fn open(n: usize, memory: RowsMemory<G>) -> AdjacencyRows<G> {
-        let persons = <AdjacencyRows<G> as Opening>::check(n, &memory).map_or(0, |()| n);
+        let persons = Self::check(n, &memory).map_or(0, |()| n);
         AdjacencyRows {
             rows: TidyRows::cleared(persons, memory.span, memory.counts, memory.cells),
             grades: memory.grades,

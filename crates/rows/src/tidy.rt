@@ -27,7 +27,7 @@ impl TidyRows {
     ghost use Rattle.rows.specs.Tidy.{links, in_row, frame};
 
     // Rows with no number in them.
-    pub(crate) fn cleared(n: usize, span: usize, counts: Vec<u16>, cells: Vec<u16>) -> TidyRows
+    pub(crate) fn cleared(n: usize, span: usize, mut counts: Vec<u16>, cells: Vec<u16>) -> TidyRows
         requires few { n ≤ 4096 }
         requires narrow { 0 < n → span ≤ 4095 }
         requires counted { n ≤ length counts.items }
@@ -35,7 +35,6 @@ impl TidyRows {
         ensures linked { (u v : ℕ) → links result u v ≡ false }
         ensures framed { frame result ≡ frame_in n span counts.items cells.items }
     {
-        let mut counts = counts;
         fill_front(&mut counts, n, 0);
         TidyRows {
             n,

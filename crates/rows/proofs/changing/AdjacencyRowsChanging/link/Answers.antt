@@ -9,7 +9,7 @@ use Rattle.rows.proofs.changing.AdjacencyRowsChanging.link.Goals as goal
 pub invariant_of-self-clause-apart : goal.invariant_of-self-clause-apart
 invariant_of-self-clause-apart g c =
     let s = c.args.self.now in
-    let apart = linked_apart _ (net_of s.rows s.grades.items) c.args.u c.args.v (sym c.check_link.ensures ∙ c.in_ok-check_link.was) in
+    let apart = linked_apart _ (net_of s.rows s.grades.items) c.args.u c.args.v c.check_link.result c.check_link.ensures c.in_ok-check_link.was in
     λ x. c.join.ensures.linked x x ∙ apart_more (links s.rows) c.args.u c.args.v apart s.apart x
 
 pub invariant_of-self-clause-bothways : goal.invariant_of-self-clause-bothways
@@ -23,10 +23,10 @@ returns-clause-network g c =
     let s = c.args.self.now in
     let net = net_of s.rows s.grades.items in
     net_linked c.join.new.self s.grades.items s.rows.n _ (ap (λ f. f.persons) c.join.ensures.framed) c.join.ensures.linked
-    ∙ granted_is (link_fault s.rows.span net c.args.u c.args.v) (with_link net c.args.u c.args.v) net (sym c.check_link.ensures ∙ c.in_ok-check_link.was)
+    ∙ granted_is (link_fault s.rows.span net c.args.u c.args.v) (with_link net c.args.u c.args.v) net c.check_link.result c.check_link.ensures c.in_ok-check_link.was
 
 pub returns-in_err-check_link-clause-network : goal.returns-in_err-check_link-clause-network
 returns-in_err-check_link-clause-network g c =
     let s = c.args.self.now in
     let net = net_of s.rows s.grades.items in
-    refused_is (link_fault s.rows.span net c.args.u c.args.v) _ (with_link net c.args.u c.args.v) net (sym c.check_link.ensures ∙ c.in_err-check_link.was)
+    refused_is (link_fault s.rows.span net c.args.u c.args.v) (with_link net c.args.u c.args.v) net c.check_link.result c.check_link.ensures _ c.in_err-check_link.was

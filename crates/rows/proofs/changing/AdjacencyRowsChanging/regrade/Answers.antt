@@ -1,4 +1,4 @@
-use Rattle.std.proofs.Common.{sym, ◌∙◌}
+use Rattle.std.proofs.Common.{◌∙◌}
 use Rattle.networks.specs.Changes.{with_grade, regrade_fault}
 use Rattle.rows.specs.Tidy.{net_of}
 use Rattle.rows.proofs.Granted.{granted_is}
@@ -10,4 +10,4 @@ returns-clause-network g c =
     let s = c.args.self.now in
     let net = net_of s.rows s.grades.items in
     net_graded s.rows s.grades.items c.args.u c.args.grade
-    ∙ granted_is (regrade_fault net c.args.u) (with_grade net c.args.u c.args.grade) net (sym c.check_regrade.ensures ∙ c.in_ok-check_regrade.was)
+    ∙ granted_is (regrade_fault net c.args.u) (with_grade net c.args.u c.args.grade) net c.check_regrade.result c.check_regrade.ensures c.in_ok-check_regrade.was

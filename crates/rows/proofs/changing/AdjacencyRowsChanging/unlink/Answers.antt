@@ -22,4 +22,4 @@ returns-clause-network g c =
     let s = c.args.self.now in
     let net = net_of s.rows s.grades.items in
     net_linked c.sever.new.self s.grades.items s.rows.n _ (ap (λ f. f.persons) c.sever.ensures.framed) c.sever.ensures.linked
-    ∙ granted_is (unlink_fault net c.args.u c.args.v) (without_link net c.args.u c.args.v) net (sym c.check_unlink.ensures ∙ c.in_ok-check_unlink.was)
+    ∙ granted_is (unlink_fault net c.args.u c.args.v) (without_link net c.args.u c.args.v) net c.check_unlink.result c.check_unlink.ensures c.in_ok-check_unlink.was

@@ -8,4 +8,5 @@ pub returns-clause-network : goal.returns-clause-network
 returns-clause-network g c =
     let m = c.args.memory in
     let size : c.map_or-persons.result ≡ opened_size (refusal_for c.args.n m.span (length m.counts.items) (length m.cells.items) (length m.grades.items)) c.args.n = search rules in
-    net_linked c.cleared.result m.grades.items _ _ (ap (λ f. f.persons) c.cleared.ensures.framed ∙ size) c.cleared.ensures.linked
+    let same : c.cleared.result.n ≡ c.map_or-persons.result = ap (λ f. f.persons) c.cleared.ensures.framed in
+    net_linked c.cleared.result m.grades.items _ _ (same ∙ size) c.cleared.ensures.linked
