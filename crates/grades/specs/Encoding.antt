@@ -20,21 +20,12 @@ abbrev pub point_bytes : Points → List ℕ
 point_bytes g = bytes32 (of_z w32 g.0)
 
 abbrev pub point_of : List ℕ → Option Points
-point_of [] = None
-point_of (a ∷ []) = None
-point_of (a ∷ b ∷ []) = None
-point_of (a ∷ b ∷ c ∷ []) = None
 point_of (a ∷ b ∷ c ∷ d ∷ []) = Some (record { 0 = to_z w32 (number32 a b c d) })
-point_of (a ∷ b ∷ c ∷ d ∷ e ∷ rest) = None
+point_of _ = None
 
 abbrev pub laurel_bytes : Laurels → List ℕ
 laurel_bytes g = g.class ∷ bytes32 g.score
 
 abbrev pub laurel_of : List ℕ → Option Laurels
-laurel_of [] = None
-laurel_of (a ∷ []) = None
-laurel_of (a ∷ b ∷ []) = None
-laurel_of (a ∷ b ∷ c ∷ []) = None
-laurel_of (a ∷ b ∷ c ∷ d ∷ []) = None
 laurel_of (a ∷ b ∷ c ∷ d ∷ e ∷ []) = Some (record { class = a; score = number32 b c d e })
-laurel_of (a ∷ b ∷ c ∷ d ∷ e ∷ f ∷ rest) = None
+laurel_of _ = None
