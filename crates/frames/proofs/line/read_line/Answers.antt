@@ -6,9 +6,6 @@ use Rattle.frames.specs.Lines.{wrong_size}
 use Rattle.frames.proofs.Spelling.{high, low, pair, right_size, digit_ok, digit_err, bytes_more, digits_more, bad_high, bad_low, zeros_more, refused, accepted}
 use Rattle.frames.proofs.line.read_line.Goals as goal
 
-pub bounds-bytes-i : goal.bounds-bytes-i
-bounds-bytes-i c = let w = right_size (length c.args.line.now) (sym c.if-wrong_size.ensures) in omega arith
-
 pub returns-in_err-high : goal.returns-in_err-high
 returns-in_err-high c =
     let cs = c.args.line.now in
