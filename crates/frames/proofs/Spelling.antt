@@ -27,35 +27,48 @@ read_err false v f e = (refl, cc)
 pub digit_err : (c : ℕ) (f : LineFault) → Err f ≡ digit_of c → (is_digit c ≡ false) × (f ≡ NoDigit)
 digit_err c f e = read_err (is_digit c) (value_of c) f e
 
--- the two characters of byte i, with the rest of the line behind them
-module _ (cs : List ℕ) (i : ℕ) (h : 2 * i + 1 < length cs) where
-  abbrev pub high : ℕ
-  high = get_or cs (2 * i) 0
+-- the characters of a line in pairs
+pair_at : (n i : ℕ) (cs : List ℕ) → i < n → get_or (first_chunks 2 n cs) i [] ≡ take 2 (drop (2 * i) cs)
+pair_at zero i cs h = absurd (omega arith)
+pair_at (suc n) zero cs h = refl
+pair_at (suc n) (suc i) cs h =
+    let twice : 2 + 2 * i ≡ 2 * suc i = omega arith in
+    pair_at n i (drop 2 cs) (omega arith) ∙ ap (take 2) (drop-drop (2 * i) 2 cs ∙ ap (λ k. drop k cs) twice)
 
-  abbrev pub low : ℕ
-  low = get_or cs (2 * i + 1) 0
+abbrev pub high : List (List ℕ) → ℕ → ℕ
+high pairs i = get_or (get_or pairs i []) 0 0
 
-  two : drop (2 * i) cs ≡ high ∷ low ∷ drop (2 * (i + 1)) cs
+abbrev pub low : List (List ℕ) → ℕ → ℕ
+low pairs i = get_or (get_or pairs i []) 1 0
+
+-- the pair of byte i, with the rest of the line behind it
+module _ (pairs : List (List ℕ)) (cs : List ℕ) (i : ℕ) (front : pairs ≡ first_chunks 2 (length cs / 2) cs) (h : i < length cs / 2) where
+  stands_at : (k j : ℕ) → k < 2 → 2 * i + k ≡ j → get_or (get_or pairs i []) k 0 ≡ get_or cs j 0
+  stands_at k j l m =
+      ap (λ ps. get_or (get_or ps i []) k 0) front ∙ ap (λ p. get_or p k 0) (pair_at (length cs / 2) i cs h) ∙ get_or-take 2 (drop (2 * i) cs) k 0 l ∙ get_or-drop (2 * i) cs k 0 ∙ ap (λ x. get_or cs x 0) m
+
+  two : drop (2 * i) cs ≡ high pairs i ∷ low pairs i ∷ drop (2 * (i + 1)) cs
   two =
-      let p : 2 * i < length cs = omega arith in
       let e : 2 * i + 1 + 1 ≡ 2 * (i + 1) = omega arith in
-      drop_more cs (2 * i) 0 p ∙ ap (λ r. high ∷ r) (drop_more cs (2 * i + 1) 0 h ∙ ap (λ n. low ∷ drop n cs) e)
+      drop_more cs (2 * i) 0 (omega arith) ∙ ap (λ c. c ∷ drop (2 * i + 1) cs) (sym (stands_at 0 (2 * i) (omega arith) (omega arith)))
+      ∙ ap (λ r. high pairs i ∷ r) (drop_more cs (2 * i + 1) 0 (omega arith) ∙ ap (λ n. get_or cs (2 * i + 1) 0 ∷ drop n cs) e)
+      ∙ ap (λ c. high pairs i ∷ c ∷ drop (2 * (i + 1)) cs) (sym (stands_at 1 (2 * i + 1) (omega arith) refl))
 
-  pub bytes_more : (bs : List ℕ) (a b : ℕ) → i < length bs → value_of high ≡ a → value_of low ≡ b → bytes_in cs ≡ take i bs ++ bytes_in (drop (2 * i) cs) → bytes_in cs ≡ take (i + 1) (set bs i (a * 16 + b)) ++ bytes_in (drop (2 * (i + 1)) cs)
+  pub bytes_more : (bs : List ℕ) (a b : ℕ) → i < length bs → value_of (high pairs i) ≡ a → value_of (low pairs i) ≡ b → bytes_in cs ≡ take i bs ++ bytes_in (drop (2 * i) cs) → bytes_in cs ≡ take (i + 1) (set bs i (a * 16 + b)) ++ bytes_in (drop (2 * (i + 1)) cs)
   bytes_more bs a b l p q e =
       e ∙ ap (λ r. take i bs ++ bytes_in r) two
-      ∙ ap (λ x. take i bs ++ x ∷ bytes_in (drop (2 * (i + 1)) cs)) (ap (λ x. x * 16 + value_of low) p ∙ ap (λ x. a * 16 + x) q)
+      ∙ ap (λ x. take i bs ++ x ∷ bytes_in (drop (2 * (i + 1)) cs)) (ap (λ x. x * 16 + value_of (low pairs i)) p ∙ ap (λ x. a * 16 + x) q)
       ∙ sym (ap (λ t. t ++ bytes_in (drop (2 * (i + 1)) cs)) (take_more_set bs i (a * 16 + b) l) ∙ append_assoc (take i bs) ((a * 16 + b) ∷ []) (bytes_in (drop (2 * (i + 1)) cs)))
 
   module _ (e : all_digits cs ≡ all_digits (drop (2 * i) cs)) where
-    pub digits_more : is_digit high ≡ true → is_digit low ≡ true → all_digits cs ≡ all_digits (drop (2 * (i + 1)) cs)
-    digits_more p q = e ∙ ap all_digits two ∙ ap (λ x. x && (is_digit low && all_digits (drop (2 * (i + 1)) cs))) p ∙ ap (λ x. x && all_digits (drop (2 * (i + 1)) cs)) q
+    pub digits_more : is_digit (high pairs i) ≡ true → is_digit (low pairs i) ≡ true → all_digits cs ≡ all_digits (drop (2 * (i + 1)) cs)
+    digits_more p q = e ∙ ap all_digits two ∙ ap (λ x. x && (is_digit (low pairs i) && all_digits (drop (2 * (i + 1)) cs))) p ∙ ap (λ x. x && all_digits (drop (2 * (i + 1)) cs)) q
 
-    pub bad_high : is_digit high ≡ false → all_digits cs ≡ false
-    bad_high p = e ∙ ap all_digits two ∙ ap (λ x. x && (is_digit low && all_digits (drop (2 * (i + 1)) cs))) p
+    pub bad_high : is_digit (high pairs i) ≡ false → all_digits cs ≡ false
+    bad_high p = e ∙ ap all_digits two ∙ ap (λ x. x && (is_digit (low pairs i) && all_digits (drop (2 * (i + 1)) cs))) p
 
-    pub bad_low : is_digit high ≡ true → is_digit low ≡ false → all_digits cs ≡ false
-    bad_low p q = e ∙ ap all_digits two ∙ ap (λ x. x && (is_digit low && all_digits (drop (2 * (i + 1)) cs))) p ∙ ap (λ x. x && all_digits (drop (2 * (i + 1)) cs)) q
+    pub bad_low : is_digit (high pairs i) ≡ true → is_digit (low pairs i) ≡ false → all_digits cs ≡ false
+    bad_low p q = e ∙ ap all_digits two ∙ ap (λ x. x && (is_digit (low pairs i) && all_digits (drop (2 * (i + 1)) cs))) p ∙ ap (λ x. x && all_digits (drop (2 * (i + 1)) cs)) q
 
 pub zeros_more : (bs : List ℕ) (i v : ℕ) → drop i bs ≡ replicate (32 - i) 0 → drop (i + 1) (set bs i v) ≡ replicate (32 - (i + 1)) 0
 zeros_more bs i v e =
@@ -119,15 +132,3 @@ line_all bs text i j t =
     let m : length (line_of bs) ≡ 2 * length bs = length_line bs in
     let w : text ≡ line_of bs ++ replicate (64 - length (line_of bs)) 0 = t ∙ ap (λ x. line_of x ++ replicate (64 - 2 * i) 0) s ∙ ap (λ k. line_of bs ++ replicate (64 - k) 0) (ap (λ k. 2 * k) j ∙ sym m) in
     ap (λ k. record { text = text; len = k }) (sym m) ∙ ap (λ x. record { text = x; len = length (line_of bs) }) w
-
--- the characters of a line in pairs
-pair_at : (n i : ℕ) (cs : List ℕ) → i < n → get_or (first_chunks 2 n cs) i [] ≡ take 2 (drop (2 * i) cs)
-pair_at zero i cs h = absurd (omega arith)
-pair_at (suc n) zero cs h = refl
-pair_at (suc n) (suc i) cs h =
-    let twice : 2 + 2 * i ≡ 2 * suc i = omega arith in
-    pair_at n i (drop 2 cs) (omega arith) ∙ ap (take 2) (drop-drop (2 * i) 2 cs ∙ ap (λ k. drop k cs) twice)
-
-pub pair : (pairs : List (List ℕ)) (cs : List ℕ) (n i k j : ℕ) → pairs ≡ first_chunks 2 n cs → i < n → k < 2 → 2 * i + k ≡ j → get_or (get_or pairs i []) k 0 ≡ get_or cs j 0
-pair pairs cs n i k j e h l m =
-    ap (λ ps. get_or (get_or ps i []) k 0) e ∙ ap (λ p. get_or p k 0) (pair_at n i cs h) ∙ get_or-take 2 (drop (2 * i) cs) k 0 l ∙ get_or-drop (2 * i) cs k 0 ∙ ap (λ x. get_or cs x 0) m

@@ -1,36 +1,29 @@
 use Rattle.std.proofs.Common.{◌≡◌, ◌+◌, ◌*◌, ◌/◌, ◌<◌, false, length, Err, sym, ap, ◌∙◌, arith}
 use Rattle.std.proofs.lemmas.List.{length-set}
 use Rattle.std.proofs.lemmas.Result.{err_from_is_err_and}
-use Rattle.frames.specs.Digits.{digit_of}
 use Rattle.frames.specs.Lines.{wrong_size}
-use Rattle.frames.proofs.Spelling.{high, low, pair, right_size, digit_ok, digit_err, bytes_more, digits_more, bad_high, bad_low, zeros_more, refused, accepted}
+use Rattle.frames.proofs.Spelling.{high, low, right_size, digit_ok, digit_err, bytes_more, digits_more, bad_high, bad_low, zeros_more, refused, accepted}
 use Rattle.frames.proofs.line.read_line.Goals as goal
 
 pub returns-in_err-high : goal.returns-in_err-high
 returns-in_err-high c =
     let cs = c.args.line.now in
-    let s : wrong_size (length cs) ≡ false = sym c.if-wrong_size.ensures in
-    let w = right_size (length cs) s in
     let n = c.as_chunks.ensures.front_len in
-    let t : c.loop-i.i < length cs / 2 = omega arith in
-    let h : 2 * c.loop-i.i + 1 < length cs = omega arith in
     let p = err_from_is_err_and c.from_residual.result c.from_residual.ensures.1 in
-    let q = digit_err (high cs c.loop-i.i h) _ (c.in_err-high.ensures.value ∙ ap digit_of (pair c.as_chunks.result.0.now cs (length cs / 2) c.loop-i.i 0 (2 * c.loop-i.i) c.as_chunks.ensures.front t (omega arith) (omega arith))) in
-    let o = refused c.args.frame.now cs _ (p.1 ∙ ap Err (p.2 ∙ q.1)) s (bad_high cs c.loop-i.i h c.loop-i.invariant.3 q.0) in
+    let q = digit_err (high c.as_chunks.result.0.now c.loop-i.i) _ c.in_err-high.ensures.value in
+    let bad = bad_high c.as_chunks.result.0.now cs c.loop-i.i c.as_chunks.ensures.front (omega arith) c.loop-i.invariant.3 q.0 in
+    let o = refused c.args.frame.now cs _ (p.1 ∙ ap Err (p.2 ∙ q.1)) (sym c.if-wrong_size.ensures) bad in
     record { answer = o.answer; after = o.after }
 
 pub returns-in_err-low : goal.returns-in_err-low
 returns-in_err-low c =
     let cs = c.args.line.now in
-    let s : wrong_size (length cs) ≡ false = sym c.if-wrong_size.ensures in
-    let w = right_size (length cs) s in
     let n = c.as_chunks.ensures.front_len in
-    let t : c.loop-i.i < length cs / 2 = omega arith in
-    let h : 2 * c.loop-i.i + 1 < length cs = omega arith in
     let p = err_from_is_err_and c.from_residual-in_err-low.result c.from_residual-in_err-low.ensures.1 in
-    let good = digit_ok (high cs c.loop-i.i h) _ (c.in_ok-high.ensures.value ∙ ap digit_of (pair c.as_chunks.result.0.now cs (length cs / 2) c.loop-i.i 0 (2 * c.loop-i.i) c.as_chunks.ensures.front t (omega arith) (omega arith))) in
-    let q = digit_err (low cs c.loop-i.i h) _ (c.in_err-low.ensures.value ∙ ap digit_of (pair c.as_chunks.result.0.now cs (length cs / 2) c.loop-i.i 1 (2 * c.loop-i.i + 1) c.as_chunks.ensures.front t (omega arith) (omega arith))) in
-    let o = refused c.args.frame.now cs _ (p.1 ∙ ap Err (p.2 ∙ q.1)) s (bad_low cs c.loop-i.i h c.loop-i.invariant.3 good.0 q.0) in
+    let good = digit_ok (high c.as_chunks.result.0.now c.loop-i.i) _ c.in_ok-high.ensures.value in
+    let q = digit_err (low c.as_chunks.result.0.now c.loop-i.i) _ c.in_err-low.ensures.value in
+    let bad = bad_low c.as_chunks.result.0.now cs c.loop-i.i c.as_chunks.ensures.front (omega arith) c.loop-i.invariant.3 good.0 q.0 in
+    let o = refused c.args.frame.now cs _ (p.1 ∙ ap Err (p.2 ∙ q.1)) (sym c.if-wrong_size.ensures) bad in
     record { answer = o.answer; after = o.after }
 
 pub loop-i-preserved : goal.loop-i-preserved
@@ -38,17 +31,18 @@ loop-i-preserved c =
     let cs = c.args.line.now in
     let i = c.loop-i.i in
     let bs = c.loop-i.bytes in
-    let v = c.in_ok-high.high * 16 + c.in_ok-low.low in
-    let w = right_size (length cs) (sym c.if-wrong_size.ensures) in
+    let pairs = c.as_chunks.result.0.now in
+    let front = c.as_chunks.ensures.front in
     let n = c.as_chunks.ensures.front_len in
-    let t : i < length cs / 2 = omega arith in
-    let h : 2 * i + 1 < length cs = omega arith in
-    let p = digit_ok (high cs i h) _ (c.in_ok-high.ensures.value ∙ ap digit_of (pair c.as_chunks.result.0.now cs (length cs / 2) c.loop-i.i 0 (2 * c.loop-i.i) c.as_chunks.ensures.front t (omega arith) (omega arith))) in
-    let q = digit_ok (low cs i h) _ (c.in_ok-low.ensures.value ∙ ap digit_of (pair c.as_chunks.result.0.now cs (length cs / 2) c.loop-i.i 1 (2 * c.loop-i.i + 1) c.as_chunks.ensures.front t (omega arith) (omega arith))) in (
+    let h : i < length cs / 2 = omega arith in
+    let w = right_size (length cs) (sym c.if-wrong_size.ensures) in
+    let v = c.in_ok-high.high * 16 + c.in_ok-low.low in
+    let p = digit_ok (high c.as_chunks.result.0.now c.loop-i.i) _ c.in_ok-high.ensures.value in
+    let q = digit_ok (low c.as_chunks.result.0.now c.loop-i.i) _ c.in_ok-low.ensures.value in (
       length-set bs i v ∙ c.loop-i.invariant.0,
       zeros_more bs i v c.loop-i.invariant.1,
-      bytes_more cs i h bs _ _ (omega arith) p.1 q.1 c.loop-i.invariant.2,
-      digits_more cs i h c.loop-i.invariant.3 p.0 q.0,
+      bytes_more pairs cs i front h bs _ _ (omega arith) p.1 q.1 c.loop-i.invariant.2,
+      digits_more pairs cs i front h c.loop-i.invariant.3 p.0 q.0,
     )
 
 pub returns : goal.returns
