@@ -1,14 +1,12 @@
 -- A square whose rows are cleared, or that has no rows, holds no link. Assumes nothing.
-use Rattle.std.proofs.Common.{◌≡◌, ℕ, ◌-◌, ◌*◌, ◌/◌, ◌%◌, ◌<◌, ◌≤◌, Bool, false, ◌&&◌, ltb, leb, List, [], ◌∷◌, length, get_or, take, drop, None, sym, ap, ◌∙◌, ap₂, inl, inr, arith}
+use Rattle.std.proofs.Common.{◌≡◌, ℕ, ◌*◌, ◌/◌, ◌%◌, ◌<◌, ◌≤◌, Bool, false, ◌&&◌, ltb, leb, List, length, get_or, take, sym, ap, ◌∙◌, inl, inr, arith}
 use mathlib.Core.Path.{fun_ext}
 use Rattle.std.proofs.lemmas.Bool.{cases_lt, cases_Bool, and_left, and_right, and_parts, ltb-true}
-use Rattle.std.proofs.lemmas.Bool.Decides.{nat_tests}
-use Rattle.networks.specs.Fixed.{Fixed, opened}
+use Rattle.networks.specs.Fixed.{opened}
 use Rattle.networks.specs.Net.{Net}
 use Rattle.networks.specs.Places.{filled}
-use Rattle.networks.proofs.Fills.{length_filled, get_d_filled, drop_filled}
+use Rattle.networks.proofs.Fills.{length_filled, get_d_filled}
 use Rattle.matrix.specs.Bits.{stride, place, bit_of, bit_at, spare_at, net_in}
-use Rattle.matrix.specs.Memory.{refusal_for, fixed_in}
 use Rattle.matrix.proofs.Bytes.{no_bit}
 use Rattle.matrix.proofs.Pairs.{Kept}
 use Rattle.matrix.proofs.Squares.{place_lt, bit_inside, bit_past, bit_nobody}
@@ -41,17 +39,8 @@ module _ (n : ℕ) (bits : List ℕ) (blank : Blank n bits) where
       let of : (ℕ → ℕ → Bool) → Net G = λ f. record { persons = n; grades = take n grades; linked = f } in
       ap of (fun_ext (λ u. fun_ext (λ v. no_link u v)))
 
-none_blank : (bits : List ℕ) → Blank 0 bits
-none_blank bits u v a b = absurd (omega arith)
-
 filled_blank : (n : ℕ) (bits : List ℕ) → n * stride n ≤ length bits → Blank n (filled (n * stride n) 0 bits)
 filled_blank n bits room u v a b = ap (λ t. bit_of t (v % 8)) (get_d_filled (n * stride n) 0 bits (place n u v) 0 (place_lt n u v a b) room) ∙ no_bit (v % 8)
-
-pub none_keeps : (bits : List ℕ) → Kept 0 bits
-none_keeps bits = blank_keeps 0 bits (none_blank bits) (omega arith)
-
-pub none_net : {G : Type 0} (bits : List ℕ) (grades : List G) → net_in 0 bits grades ≡ opened 0 grades
-none_net bits grades = blank_net 0 bits (none_blank bits) grades
 
 module _ (n : ℕ) (bits : List ℕ) (room : n * stride n ≤ length bits) where
   pub cleared_keeps : Kept n (filled (n * stride n) 0 bits)
@@ -59,12 +48,3 @@ module _ (n : ℕ) (bits : List ℕ) (room : n * stride n ≤ length bits) where
 
   pub cleared_net : {G : Type 0} (grades : List G) → net_in n (filled (n * stride n) 0 bits) grades ≡ opened n grades
   cleared_net grades = blank_net n (filled (n * stride n) 0 bits) (filled_blank n bits room) grades
-
-  pub cleared_fixed : {G : Type 0} (grades : List G) → fixed_in n (filled (n * stride n) 0 bits) grades ≡ fixed_in n bits grades
-  cleared_fixed {G} grades =
-      let of : ℕ → List ℕ → Fixed G = λ k b. record { sizes = k ∷ length grades ∷ []; ceiling = n - 1; grades_behind = drop n grades; cells_behind = b ∷ [] } in
-      ap₂ of (length_filled (n * stride n) 0 bits) (drop_filled (n * stride n) 0 bits room)
-
--- what the check makes sure of
-pub room_for : (n bits grades : ℕ) → refusal_for n (bits ∷ grades ∷ []) ≡ None → (n ≤ 4096) × (n * stride n ≤ bits) × (n ≤ grades)
-room_for n bits grades h = (grind (arith, nat_tests), grind (arith, nat_tests), grind (arith, nat_tests))

@@ -1,10 +1,10 @@
 -- A pair whose two bits are flipped: the network with a link more or less, and what the square keeps. Assumes nothing.
-use Rattle.std.proofs.Common.{◌≡◌, ℕ, ◌-◌, ◌*◌, ◌%◌, ◌^◌, ◌<◌, ◌≤◌, Bool, true, false, cond, not, ◌&&◌, ◌||◌, eqb, List, [], ◌∷◌, length, get_or, take, drop, set, sym, ap, ◌∙◌, subst, ap₂, inl, inr, arith}
+use Rattle.std.proofs.Common.{◌≡◌, ℕ, ◌-◌, ◌*◌, ◌%◌, ◌^◌, ◌<◌, ◌≤◌, Bool, true, false, cond, not, ◌&&◌, ◌||◌, List, [], ◌∷◌, length, get_or, take, drop, set, sym, ap, ◌∙◌, subst, ap₂, arith}
 use mathlib.Core.Path.{fun_ext}
 use lib.Bits.{bit_xor}
 use Rattle.std.proofs.lemmas.Grind.{common_steps}
 use Rattle.std.proofs.lemmas.List.{length-set, drop-set-lt}
-use Rattle.std.proofs.lemmas.Bool.{cases_Bool, eq-eqb, eqb-true, and_from, and_parts, or_left, or_right, or_cases, or_from, both_ways, cond-true, cond-false}
+use Rattle.std.proofs.lemmas.Bool.{cond-false}
 use Rattle.std.proofs.lemmas.Bool.Decides.{nat_tests}
 use Rattle.networks.specs.Fixed.{Fixed}
 use Rattle.networks.specs.Net.{Net}
@@ -48,24 +48,7 @@ module _ (n : ℕ) (bits : List ℕ) (u v : ℕ) (lu : u < n) (lv : v < n) (ne :
   neither x y a b = flip_there n (flipped n bits u v) v u lv lu room_once x y b ∙ flip_there n bits u v lu lv room x y a
 
   pair_bit : (x y : ℕ) → bit_at n (pair_flipped n bits u v) x y ≡ cond (is_pair u v x y) (not (bit_at n bits x y)) (bit_at n bits x y)
-  pair_bit x y = elim (cases_Bool (eqb x u && eqb y v)) [
-    | inl p ↦ (
-        let q = and_parts (eqb x u) (eqb y v) p in
-        let e = eqb-true x u q.0 in
-        let f = eqb-true y v q.1 in
-        ap₂ (bit_at n (pair_flipped n bits u v)) e f ∙ first_here ∙ ap not (sym (ap₂ (bit_at n bits) e f)) ∙ sym (cond-true _ _ _ (or_left (eqb x u && eqb y v) _ p)))
-    | inr no₁ ↦ elim (cases_Bool (eqb x v && eqb y u)) [
-      | inl p ↦ (
-          let q = and_parts (eqb x v) (eqb y u) p in
-          let e = eqb-true x v q.0 in
-          let f = eqb-true y u q.1 in
-          ap₂ (bit_at n (pair_flipped n bits u v)) e f ∙ second_here ∙ ap not (sym (ap₂ (bit_at n bits) e f)) ∙ sym (cond-true _ _ _ (or_right (eqb x u && eqb y v) _ p)))
-      | inr no₂ ↦
-          neither x y (λ e. both_ways _ no₁ (and_from (eqb x u) (eqb y v) (eq-eqb x u e.0) (eq-eqb y v e.1)))
-          (λ e. both_ways _ no₂ (and_from (eqb x v) (eqb y u) (eq-eqb x v e.0) (eq-eqb y u e.1)))
-          ∙ sym (cond-false _ _ _ (or_from (eqb x u && eqb y v) (eqb x v && eqb y u) no₁ no₂))
-    ]
-  ]
+  pair_bit x y = grind (arith, nat_tests, first_here, second_here, neither x y)
 
   -- what the square keeps
   pair_mirrors : ((x y : ℕ) → bit_at n bits x y ≡ bit_at n bits y x) → (x y : ℕ) → bit_at n (pair_flipped n bits u v) x y ≡ bit_at n (pair_flipped n bits u v) y x
@@ -78,24 +61,11 @@ module _ (n : ℕ) (bits : List ℕ) (u v : ℕ) (lu : u < n) (lv : v < n) (ne :
   pair_spares : ((x y : ℕ) → spare_at n bits x y ≡ false) → (x y : ℕ) → spare_at n (pair_flipped n bits u v) x y ≡ false
   pair_spares spare x y = flip_spare n (flipped n bits u v) v u lv lu room_once x y ∙ flip_spare n bits u v lu lv room x y ∙ spare x y
 
-  -- the bit of a pair, either way round
-  pair_value : (b : Bool) → bit_at n bits u v ≡ b → bit_at n bits v u ≡ b → (x y : ℕ) → is_pair u v x y ≡ true → bit_at n bits x y ≡ b
-  pair_value b p q x y t = elim (or_cases (eqb x u && eqb y v) (eqb x v && eqb y u) t) [
-    | inl h ↦ (let k = and_parts (eqb x u) (eqb y v) h in ap₂ (bit_at n bits) (eqb-true x u k.0) (eqb-true y v k.1) ∙ p)
-    | inr h ↦ (let k = and_parts (eqb x v) (eqb y u) h in ap₂ (bit_at n bits) (eqb-true x v k.0) (eqb-true y u k.1) ∙ q)
-  ]
-
   one_more : bit_at n bits u v ≡ false → bit_at n bits v u ≡ false → (x y : ℕ) → bit_at n (pair_flipped n bits u v) x y ≡ (is_pair u v x y || bit_at n bits x y)
-  one_more p q x y = elim (cases_Bool (is_pair u v x y)) [
-    | inl t ↦ pair_bit x y ∙ cond-true _ _ _ t ∙ ap not (pair_value false p q x y t) ∙ sym (or_left (is_pair u v x y) _ t)
-    | inr f ↦ pair_bit x y ∙ cond-false _ _ _ f ∙ sym (ap (λ b. b || bit_at n bits x y) f)
-  ]
+  one_more p q x y = grind (arith, nat_tests, pair_bit x y)
 
   one_less : bit_at n bits u v ≡ true → bit_at n bits v u ≡ true → (x y : ℕ) → bit_at n (pair_flipped n bits u v) x y ≡ (not (is_pair u v x y) && bit_at n bits x y)
-  one_less p q x y = elim (cases_Bool (is_pair u v x y)) [
-    | inl t ↦ pair_bit x y ∙ cond-true _ _ _ t ∙ ap not (pair_value true p q x y t) ∙ sym (ap (λ b. not b && bit_at n bits x y) t)
-    | inr f ↦ pair_bit x y ∙ cond-false _ _ _ f ∙ sym (ap (λ b. not b && bit_at n bits x y) f)
-  ]
+  one_less p q x y = grind (arith, nat_tests, pair_bit x y)
 
   pub net_linked : {G : Type 0} (grades : List G) → bit_at n bits u v ≡ false → bit_at n bits v u ≡ false → net_in n (pair_flipped n bits u v) grades ≡ with_link (net_in n bits grades) u v
   net_linked {G} grades p q =

@@ -1,5 +1,7 @@
 -- The memory of a bit matrix: what the check goes by, and what it holds. Assumes nothing.
---     sizes_of, refusal_for       the lengths of bits and grades; 6 above 4,096 persons, else 7 where one is short
+--     refusal_for n sizes         by the lengths of bits and grades: 6 above 4,096 persons, else 7 where one is short
+--     fixed_in n bits grades      the lengths, the ceiling, and what lies behind
+--     digit b weight              the weight, or 0
 --     byte_of t                   the byte with the bits t
 --     packed net                  the bytes of a network, row by row; spare bits are clear
 --     Holding net f m             the memory holds just the network, and behind it what lay there at the opening

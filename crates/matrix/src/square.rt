@@ -1,9 +1,9 @@
 // A square of bits, one for each ordered pair of n persons: one bit, one row, and a pair turned over.
-ghost use Rattle.std.specs.Prelude.{◌≡◌, ℕ, ◌*◌, ◌<◌, ◌≤◌, false, length, filter, slice_index};
+ghost use Rattle.std.specs.Prelude.{◌≡◌, ℕ, ◌*◌, ◌<◌, ◌≤◌, false, length, slice_index};
 ghost use Rattle.grades.specs.Places.{onto};
-ghost use Rattle.matrix.specs.Bits.{stride, place, row_of, bit_at, spare_at, pair_flipped};
+ghost use Rattle.matrix.specs.Bits.{stride, place, row_of, bit_at, near_in, spare_at, pair_flipped};
 ghost use Rattle.networks.specs.Places.{filled};
-ghost use Rattle.std.specs.List.{slice_get, range_with_len};
+ghost use Rattle.std.specs.List.{slice_get};
 
 use crate::words::{copy_set_bits, word};
 use networks::places::fill_front;
@@ -68,8 +68,8 @@ impl Square {
 
     // The persons in u's row, as many as there are places; the answer is how many there are.
     pub(crate) fn copy_row(&self, u: usize, places: &mut [u32]) -> usize
-        ensures count { result ≡ length (filter (bit_at self.now.n self.now.bits.items u) (range_with_len 0 self.now.n)) }
-        ensures copied { places.new ≡ onto (filter (bit_at self.now.n self.now.bits.items u) (range_with_len 0 self.now.n)) places.old }
+        ensures count { result ≡ length (near_in self.now.n self.now.bits.items u) }
+        ensures copied { places.new ≡ onto (near_in self.now.n self.now.bits.items u) places.old }
     {
         let mut count = 0;
         for (i, bytes) in self.row(u).chunks(8).enumerate() {
@@ -81,7 +81,7 @@ impl Square {
 
     // The i-th person in u's row.
     pub(crate) fn nth_in_row(&self, u: usize, i: usize) -> Option<usize>
-        ensures { result ≡ slice_get (filter (bit_at self.now.n self.now.bits.items u) (range_with_len 0 self.now.n)) i }
+        ensures { result ≡ slice_get (near_in self.now.n self.now.bits.items u) i }
     {
         (0..self.n).filter(|v| self.bit(u, *v)).nth(i)
     }

@@ -4,7 +4,7 @@ ghost use Rattle.grades.specs.Places.{onto};
 ghost use Rattle.matrix.specs.Bits.{bit_of};
 ghost use Rattle.matrix.specs.Words.{set_bits};
 
-// The bits of at most eight bytes, and no more.
+// At most eight bytes as a word: its bit j is the bit j % 8 of the byte j / 8.
 pub(crate) fn word(bytes: &[u8]) -> u64
     requires { length bytes.now ≤ 8 }
     ensures { (j : ℕ) → bit_of result j ≡ bit_of (slice_index bytes.now (j / 8)) (j % 8) }

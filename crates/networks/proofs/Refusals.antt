@@ -1,31 +1,10 @@
 -- When a change is granted. Assumes nothing.
-use Rattle.std.proofs.Common.{◌≡◌, ℕ, ◌<◌, true, false, leb, is_ok, Ok, Some, None, Option, refl, ◌∙◌, arith}
-use Rattle.std.proofs.lemmas.Bool.{lt-leb, ne_eqb, or_from, cond-false, cond-true, both_ways}
+use Rattle.std.proofs.Common.{◌≡◌, ℕ, ◌<◌, true, false, Ok, Some, None, Option, refl, arith}
 use Rattle.faults.specs.Answers.{answered}
 use Rattle.faults.specs.declared.call_fault.CallFault.{CallFault}
 use Rattle.std.proofs.lemmas.Bool.Decides.{nat_tests}
-use Rattle.networks.specs.Fixed.{opened_size}
 use Rattle.networks.specs.Net.{Net, degree_of}
-use Rattle.networks.specs.Changes.{pair_fault, new_pair_fault, link_fault, unlink_fault, regrade_fault}
-
-module _ {G : Type 0} (net : Net G) (u v : ℕ) (a : u < net.persons) (b : v < net.persons) (ne : u ≡ v → ⊥) where
-  -- two persons who are not one: the other refusals decide
-  pub pair_passes : (other : Option CallFault) → pair_fault net u v other ≡ other
-  pair_passes other =
-      cond-false _ _ _ (or_from (leb net.persons u) (leb net.persons v) (lt-leb net.persons u a) (lt-leb net.persons v b))
-      ∙ cond-false _ _ _ (ne_eqb u v ne)
-
-  pub link_granted : (ceiling : ℕ) → net.linked u v ≡ false → degree_of net u < ceiling → degree_of net v < ceiling → link_fault ceiling net u v ≡ None
-  link_granted ceiling free p q =
-      pair_passes _
-      ∙ cond-false _ _ _ free
-      ∙ cond-false _ _ _ (or_from (leb ceiling (degree_of net u)) (leb ceiling (degree_of net v)) (lt-leb ceiling (degree_of net u) p) (lt-leb ceiling (degree_of net v) q))
-
-  pub unlink_granted : net.linked u v ≡ true → unlink_fault net u v ≡ None
-  unlink_granted held = pair_passes _ ∙ cond-true _ _ _ held
-
-pub regrade_granted : {G : Type 0} (net : Net G) (u : ℕ) → u < net.persons → regrade_fault net u ≡ None
-regrade_granted net u a = cond-false _ _ _ (lt-leb net.persons u a)
+use Rattle.networks.specs.Changes.{new_pair_fault, link_fault, unlink_fault}
 
 -- what a check that grants says of a pair
 pub granted : (f : Option CallFault) → answered f (tt {0}) ≡ Ok (tt {0}) → f ≡ None
@@ -36,14 +15,8 @@ module _ {G : Type 0} (net : Net G) (u v : ℕ) where
   pub new_pair : new_pair_fault net u v ≡ None → (u < net.persons) × (v < net.persons) × (u ≡ v → ⊥) × (net.linked u v ≡ false)
   new_pair h = (grind (arith, nat_tests), grind (arith, nat_tests), λ e. grind (arith, nat_tests), grind (arith, nat_tests))
 
+  pub link_granted : (ceiling : ℕ) → new_pair_fault net u v ≡ None → degree_of net u < ceiling → degree_of net v < ceiling → link_fault ceiling net u v ≡ None
+  link_granted ceiling h p q = grind (arith, nat_tests)
+
   pub linked_pair : unlink_fault net u v ≡ None → (u < net.persons) × (v < net.persons) × (u ≡ v → ⊥) × (net.linked u v ≡ true)
   linked_pair h = (grind (arith, nat_tests), grind (arith, nat_tests), λ e. grind (arith, nat_tests), grind (arith, nat_tests))
-
--- what a check that grants, or refuses, says of the refusal
-pub granted_none : (f : Option CallFault) → is_ok (answered f (tt {0})) ≡ true → f ≡ None
-granted_none None h = refl
-granted_none (Some x) h = absurd (both_ways false refl h)
-
-pub refused_none : (f : Option CallFault) (n : ℕ) → is_ok (answered f (tt {0})) ≡ false → opened_size f n ≡ 0
-refused_none None n h = absurd (both_ways true h refl)
-refused_none (Some x) n h = refl

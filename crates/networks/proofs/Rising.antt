@@ -1,10 +1,11 @@
 -- The numbers below n that pass a test, in order: what neighbours are. Assumes nothing.
-use Rattle.std.proofs.Common.{◌≡◌, ℕ, zero, suc, ◌+◌, ◌-◌, ◌<◌, ◌≤◌, Bool, true, false, cond, List, [], ◌∷◌, ◌++◌, length, get_or, take, set, Some, None, filter, Option, sym, refl, ap, ◌∙◌, inl, inr, arith}
+use Rattle.std.proofs.Common.{◌≡◌, ℕ, zero, suc, ◌+◌, ◌-◌, ◌<◌, ◌≤◌, Bool, true, false, cond, List, [], ◌∷◌, ◌++◌, length, get_or, take, set, Some, None, filter, Option, refl, ap, ◌∙◌, inl, inr, arith}
 use Rattle.std.specs.List.{slice_get, range_with_len, AllByRecursion}
-use Rattle.std.proofs.lemmas.List.FromFn.{map-range_with_len_more}
+use Rattle.std.proofs.lemmas.List.FromFn.{length-range_with_len}
+use Rattle.std.proofs.lemmas.List.Sums.{length-filter, count_by-le-length}
 use Rattle.std.proofs.lemmas.List.Elements.{filter-append}
 use Rattle.std.proofs.ByRecursion.{All-get_or, all_kept_by}
-use Rattle.std.proofs.lemmas.List.{append-nil, length-append, map-id}
+use Rattle.std.proofs.lemmas.List.{append-nil, length-append}
 use Rattle.std.proofs.lemmas.Grind.{common_steps}
 use Rattle.std.proofs.lemmas.Option.{slice_get-get_or}
 use Rattle.std.proofs.lemmas.Bool.{cases_eq, cases_lt}
@@ -25,26 +26,11 @@ pub nth_some : {X : Type 0} (xs : List X) (i : ℕ) (v : X) (r : Option X) → r
 nth_some xs i v r e f h = let n = slice_get-get_or xs i v h in cc
 
 pub nth_none : {X : Type 0} (xs : List X) (i : ℕ) (r : Option X) → r ≡ slice_get xs i → r ≡ None → i < length xs → X → ⊥
-nth_none xs i r e f h d = let n = slice_get-get_or xs i d h in let z : ◌≡◌ {A = ℕ} 0 1 = cc in omega arith
+nth_none xs i r e f h d = let n = slice_get-get_or xs i d h in cc
 
 -- a place more of a row filled with what the list holds there
 pub nth_next : {X : Type 0} (xs ys : List X) (i : ℕ) (v : X) → i < length xs → i < length ys → v ≡ get_or xs i v → take i ys ≡ take i xs → take (i + 1) (set ys i v) ≡ take (i + 1) xs
 nth_next xs ys i v h l e t = grind (arith, common_steps)
-
-counting_more : (n : ℕ) → range_with_len 0 (n + 1) ≡ range_with_len 0 n ++ n ∷ []
-counting_more n =
-    let e : 0 + n ≡ n = omega arith in
-    sym (map-id (range_with_len 0 (n + 1))) ∙ map-range_with_len_more (λ x. x) 0 n n e ∙ ap (λ t. t ++ n ∷ []) (map-id (range_with_len 0 n))
-
-kept_more : (p : ℕ → Bool) (n : ℕ) → filter p (range_with_len 0 (n + 1)) ≡ filter p (range_with_len 0 n) ++ cond (p n) (n ∷ []) []
-kept_more p n = ap (filter p) (counting_more n) ∙ filter-append p (range_with_len 0 n) (n ∷ [])
-
--- one number more: it passes, or it does not
-pub kept_push : (p : ℕ → Bool) (n : ℕ) → p n ≡ true → filter p (range_with_len 0 (n + 1)) ≡ filter p (range_with_len 0 n) ++ n ∷ []
-kept_push p n h = kept_more p n ∙ ap (λ b. filter p (range_with_len 0 n) ++ cond b (n ∷ []) []) h
-
-pub kept_same : (p : ℕ → Bool) (n : ℕ) → p n ≡ false → filter p (range_with_len 0 (n + 1)) ≡ filter p (range_with_len 0 n)
-kept_same p n h = kept_more p n ∙ ap (λ b. filter p (range_with_len 0 n) ++ cond b (n ∷ []) []) h ∙ append-nil (filter p (range_with_len 0 n))
 
 pub counting_append : (a n m : ℕ) → range_with_len a (n + m) ≡ range_with_len a n ++ range_with_len (a + n) m
 counting_append a zero m = let e : 0 + m ≡ m = omega arith in let f : a ≡ a + 0 = omega arith in ap (range_with_len a) e ∙ ap (λ t. range_with_len t m) f
@@ -58,6 +44,10 @@ kept_append p n m =
     let e : 0 + n ≡ n = omega arith in
     ap (filter p) (counting_append 0 n m ∙ ap (λ a. range_with_len 0 n ++ range_with_len a m) e) ∙ filter-append p (range_with_len 0 n) (range_with_len n m)
 
+-- one number more, which fails
+kept_same : (p : ℕ → Bool) (n : ℕ) → p n ≡ false → filter p (range_with_len 0 (n + 1)) ≡ filter p (range_with_len 0 n)
+kept_same p n h = kept_append p n 1 ∙ ap (λ b. filter p (range_with_len 0 n) ++ cond b (n ∷ []) []) h ∙ append-nil (filter p (range_with_len 0 n))
+
 pub kept_none : (p : ℕ → Bool) (a n : ℕ) → ((v : ℕ) → a ≤ v → p v ≡ false) → filter p (range_with_len a n) ≡ []
 kept_none p a zero h = refl
 kept_none p a (suc n) h =
@@ -69,30 +59,8 @@ kept_past p n m l h =
     let e : m ≡ n + (m - n) = omega arith in
     ap (λ t. filter p (range_with_len 0 t)) e ∙ kept_append p n (m - n) ∙ ap (λ t. filter p (range_with_len 0 n) ++ t) (kept_none p n (m - n) h) ∙ append-nil (filter p (range_with_len 0 n))
 
-pub length_kept_push : (p : ℕ → Bool) (n : ℕ) → p n ≡ true → length (filter p (range_with_len 0 (n + 1))) ≡ length (filter p (range_with_len 0 n)) + 1
-length_kept_push p n h = ap length (kept_push p n h) ∙ length-append (filter p (range_with_len 0 n)) (n ∷ [])
-
-nth_at : (xs : List ℕ) (v : ℕ) (ys : List ℕ) → slice_get (xs ++ v ∷ ys) (length xs) ≡ Some v
-nth_at [] v ys = refl
-nth_at (x ∷ xs) v ys = nth_at xs v ys
-
--- a number that passes stands behind the smaller ones that do
-pub kept_at : (p : ℕ → Bool) (n v i : ℕ) → v < n → p v ≡ true → i ≡ length (filter p (range_with_len 0 v)) → slice_get (filter p (range_with_len 0 n)) i ≡ Some v
-kept_at p n v i h t e =
-    let rest = n - (v + 1) in
-    let split : n ≡ v + suc rest = omega arith in
-    let front = filter p (range_with_len 0 v) in
-    let kept : filter p (range_with_len 0 n) ≡ front ++ v ∷ filter p (range_with_len (v + 1) rest) =
-    ap (λ m. filter p (range_with_len 0 m)) split ∙ kept_append p v (suc rest)
-    ∙ ap (λ b. front ++ cond b (v ∷ filter p (range_with_len (v + 1) rest)) (filter p (range_with_len (v + 1) rest))) t in
-    ap (slice_get (filter p (range_with_len 0 n))) e ∙ ap (λ l. slice_get l (length front)) kept ∙ nth_at front v (filter p (range_with_len (v + 1) rest))
-
 pub kept_few : (p : ℕ → Bool) (a n : ℕ) → length (filter p (range_with_len a n)) ≤ n
-kept_few p a zero = omega arith
-kept_few p a (suc n) = elim (p a) as (λ b. length (cond b (a ∷ filter p (range_with_len (a + 1) n)) (filter p (range_with_len (a + 1) n))) ≤ suc n) [
-  | true ↦ (let r = kept_few p (a + 1) n in omega arith)
-  | false ↦ (let r = kept_few p (a + 1) n in omega arith)
-]
+kept_few p a n = omega (arith, length-filter p (range_with_len a n), count_by-le-length p (range_with_len a n), length-range_with_len a n)
 
 -- one number that fails is not among them, nor are two
 kept_miss : (p : ℕ → Bool) (a n u : ℕ) → a ≤ u → u < a + n → p u ≡ false → length (filter p (range_with_len a n)) + 1 ≤ n

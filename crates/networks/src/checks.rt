@@ -6,6 +6,7 @@ ghost use Rattle.networks.specs.Changes.{pair_fault, new_pair_fault, link_fault,
 use crate::network::Network;
 use faults::CallFault;
 
+// A person, which is all that a regrade asks.
 pub fn check_regrade<N: Network>(net: &N, u: usize) -> Result<(), CallFault>
     ensures { result ≡ answered (regrade_fault (N.Network.meaning net.now) u) tt }
 {

@@ -10,7 +10,7 @@ pub fn item<T: Copy>(places: &[T], n: usize, u: usize) -> Option<T>
     places[..n.min(places.len())].get(u).copied()
 }
 
-// The first n hold x, as far as there are places; those behind stay.
+// The first n hold x, as far as there are places; those behind stay. A `fill` would ask that no clone of x can fail.
 pub fn fill_front<T: Copy>(places: &mut [T], n: usize, x: T)
     ensures { places.new ≡ filled n x places.old }
 {

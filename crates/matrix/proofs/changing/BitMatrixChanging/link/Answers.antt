@@ -15,12 +15,13 @@ returns g c =
     let u = c.args.u in
     let v = c.args.v in
     let net = net_in s.n s.bits.items grades in
-    let pair = new_pair net u v (granted (new_pair_fault net u v) (sym c.check_new_pair.ensures ∙ c.in_ok-check_new_pair.was)) in
+    let new = granted (new_pair_fault net u v) (sym c.check_new_pair.ensures ∙ c.in_ok-check_new_pair.was) in
+    let pair = new_pair net u v new in
     let there = s.mirror v u ∙ pair.3 in
     let none : link_fault (s.n - 1) net u v ≡ None = (
     let du = kept_misses (bit_at s.n s.bits.items u) s.n u v pair.0 pair.1 pair.2 (s.apart u) pair.3 in
     let dv = kept_misses (bit_at s.n s.bits.items v) s.n u v pair.0 pair.1 pair.2 there (s.apart v) in
-    link_granted net u v pair.0 pair.1 pair.2 (s.n - 1) pair.3 (omega arith) (omega arith)) in
+    link_granted net u v (s.n - 1) new (omega arith) (omega arith)) in
     record {
       cases = ap (λ f. answered f tt) (sym none);
       network = ap₂ (λ n t. net_in n t grades) c.flip_pair.ensures.persons c.flip_pair.ensures.bits
