@@ -1,7 +1,7 @@
 -- A square whose rows are cleared, or that has no rows, holds no link. Assumes nothing.
-use Rattle.std.proofs.Common.{◌≡◌, ℕ, ◌*◌, ◌/◌, ◌%◌, ◌<◌, ◌≤◌, Bool, false, ◌&&◌, ltb, leb, List, length, get_or, take, sym, ap, ◌∙◌, inl, inr, arith}
+use Rattle.std.proofs.Common.{◌≡◌, ℕ, ◌*◌, ◌/◌, ◌%◌, ◌<◌, ◌≤◌, Bool, false, List, length, get_or, take, sym, ap, ◌∙◌, arith}
 use mathlib.Core.Path.{fun_ext}
-use Rattle.std.proofs.lemmas.Bool.{cases_lt, cases_Bool, and_left, and_right, and_parts, ltb-true}
+use Rattle.std.proofs.lemmas.Bool.Decides.{nat_tests}
 use Rattle.networks.specs.Fixed.{opened}
 use Rattle.networks.specs.Net.{Net}
 use Rattle.networks.specs.Places.{filled}
@@ -9,7 +9,7 @@ use Rattle.networks.proofs.Fills.{length_filled, get_d_filled}
 use Rattle.matrix.specs.Bits.{stride, place, bit_of, bit_at, spare_at, net_in}
 use Rattle.matrix.proofs.Bytes.{no_bit}
 use Rattle.matrix.proofs.Pairs.{Kept}
-use Rattle.matrix.proofs.Squares.{place_lt, bit_inside, bit_past, bit_nobody}
+use Rattle.matrix.proofs.Squares.{place_lt}
 
 -- no bit of the rows is set
 abbrev Blank : ℕ → List ℕ → Type 0
@@ -17,19 +17,10 @@ Blank n bits = (u v : ℕ) → u < n → v / 8 < stride n → bit_of (get_or bit
 
 module _ (n : ℕ) (bits : List ℕ) (blank : Blank n bits) where
   no_link : (u v : ℕ) → bit_at n bits u v ≡ false
-  no_link u v = elim (cases_lt u n) [
-    | inl a ↦ elim (cases_lt v n) [ inl b ↦ bit_inside n bits u v a b ∙ blank u v a (omega arith) | inr b ↦ bit_past n bits u v b ]
-    | inr a ↦ bit_nobody n bits u v a
-  ]
+  no_link u v = grind (arith, nat_tests, blank u v)
 
   no_spare : (u v : ℕ) → spare_at n bits u v ≡ false
-  no_spare u v = elim (cases_Bool (ltb u n && (leb n v && ltb v (8 * stride n)))) [
-    | inr f ↦ and_left (ltb u n && (leb n v && ltb v (8 * stride n))) _ f
-    | inl t ↦ (
-        let a = and_parts (ltb u n) _ t in
-        let l = ltb-true v (8 * stride n) (and_parts (leb n v) _ a.1).1 in
-        and_right (ltb u n && (leb n v && ltb v (8 * stride n))) _ (blank u v (ltb-true u n a.0) (omega arith)))
-  ]
+  no_spare u v = grind (arith, nat_tests, blank u v)
 
   blank_keeps : n * stride n ≤ length bits → Kept n bits
   blank_keeps room = record { room = room; mirror = λ x y. no_link x y ∙ sym (no_link y x); apart = λ x. no_link x x; spare = no_spare }

@@ -1,11 +1,12 @@
 -- Places and bits of the square, and a bit that is flipped. Assumes nothing.
-use Rattle.std.proofs.Common.{◌≡◌, ℕ, zero, suc, ◌+◌, ◌-◌, ◌*◌, ◌/◌, ◌%◌, ◌^◌, ◌<◌, ◌≤◌, Bool, false, not, ◌&&◌, eqb, ltb, leb, List, length, get_or, sym, refl, ap, ◌∙◌, inl, inr, arith, pow_pos}
+use Rattle.std.proofs.Common.{◌≡◌, ℕ, zero, suc, ◌+◌, ◌-◌, ◌*◌, ◌/◌, ◌%◌, ◌^◌, ◌<◌, ◌≤◌, false, not, eqb, ltb, List, length, get_or, sym, refl, ap, ◌∙◌, inl, inr, arith, pow_pos}
 use native.Mathlib.Nat.{div-eq_of_lt, div_self}
 use lib.Bits.{bit_xor, xor_zero_r, shifted_even}
 use lib.Pow.{pow-lt}
 use Rattle.std.proofs.lemmas.Nat.{mul-add-lt, xor_shr, xor_mod, pow-add, shl-shr, div-mul-add, mod-mul-add}
 use Rattle.std.proofs.lemmas.List.{get_or-set_same, get_or-set_other}
-use Rattle.std.proofs.lemmas.Bool.{cases_Bool, cases_eq, cases_lt, lt-ltb, le-ltb, ltb-true, leb-true, and_left, and_right, and_parts}
+use Rattle.std.proofs.lemmas.Bool.{cases_eq, cases_lt, lt-ltb, le-ltb, and_left, and_right}
+use Rattle.std.proofs.lemmas.Bool.Decides.{nat_tests}
 use Rattle.matrix.specs.Bits.{stride, place, bit_of, bit_at, spare_at, flipped}
 
 pub place_lt : (n u v : ℕ) → u < n → v / 8 < stride n → place n u v < n * stride n
@@ -87,20 +88,7 @@ module _ (n : ℕ) (bits : List ℕ) (a b : ℕ) (la : a < n) (lb : b < n) (room
       ∙ ap not (sym (bit_inside n bits a b la lb))
 
   pub flip_there : (x y : ℕ) → ((x ≡ a) × (y ≡ b) → ⊥) → bit_at n (flipped n bits a b) x y ≡ bit_at n bits x y
-  flip_there x y ne = elim (cases_lt y n) [
-    | inl q ↦ ap (λ t. ltb x n && (ltb y n && t)) (flip_raw_there x y (omega arith) ne)
-    | inr q ↦ bit_past n (flipped n bits a b) x y q ∙ sym (bit_past n bits x y q)
-  ]
+  flip_there x y ne = grind (arith, nat_tests, flip_raw_there x y)
 
   pub flip_spare : (x y : ℕ) → spare_at n (flipped n bits a b) x y ≡ spare_at n bits x y
-  flip_spare x y = elim (cases_Bool (spares x y)) [
-    | inr no' ↦ and_left (spares x y) _ no' ∙ sym (and_left (spares x y) _ no')
-    | inl yes' ↦ (
-        let past = and_parts (leb n y) _ (and_parts (ltb x n) _ yes').1 in
-        let lo = leb-true n y past.0 in
-        let hi = ltb-true y (8 * stride n) past.1 in
-        ap (λ t. spares x y && t) (flip_raw_there x y (omega arith) (λ e. omega (arith, e.1))))
-  ]
-    where
-      spares : ℕ → ℕ → Bool
-      spares x y = ltb x n && (leb n y && ltb y (8 * stride n))
+  flip_spare x y = grind (arith, nat_tests, flip_raw_there x y)
