@@ -1,12 +1,12 @@
 -- The bytes of the square are those of the network that it means. Assumes nothing.
-use Rattle.std.proofs.Common.{◌≡◌, ℕ, zero, suc, ◌+◌, ◌*◌, ◌/◌, ◌%◌, ◌<◌, ◌≤◌, Bool, false, ◌&&◌, eqb, ltb, leb, List, ◌++◌, length, get_or, take, drop, sym, ap, ◌∙◌, ap₂, inl, inr, arith}
+use Rattle.std.proofs.Common.{◌≡◌, ℕ, zero, suc, ◌+◌, ◌*◌, ◌/◌, ◌%◌, ◌<◌, ◌≤◌, Bool, false, eqb, List, ◌++◌, length, get_or, take, drop, sym, ap, ◌∙◌, ap₂, inl, inr, arith}
 use Rattle.std.proofs.lemmas.Nat.{div_below, mod_below, div-add-mod'}
 use Rattle.std.proofs.lemmas.List.FromFn.{fill_by_all}
 use Rattle.std.proofs.lemmas.List.{length-take-le, get_or-take, take-append-drop}
-use Rattle.std.proofs.lemmas.Bool.{cases_lt, lt-ltb, le-leb, and_from}
+use Rattle.std.proofs.lemmas.Bool.{cases_lt}
 use Rattle.matrix.specs.Bits.{stride, place, bit_of, bit_at, spare_at, net_in}
 use Rattle.matrix.specs.Memory.{digit, byte_of, packed}
-use Rattle.matrix.proofs.Squares.{bit_inside, bit_past}
+use Rattle.matrix.proofs.Squares.{row_bit}
 
 same_byte : (s t : ℕ → Bool) → ((j : ℕ) → j < 8 → s j ≡ t j) → byte_of s ≡ byte_of t
 same_byte s t h =
@@ -47,15 +47,6 @@ some_bytes n i h = elim (cases_lt 0 (stride n)) [
 ]
 
 module _ (n : ℕ) (bits : List ℕ) (clear : (x y : ℕ) → spare_at n bits x y ≡ false) (small : (i : ℕ) → get_or bits i 0 < 256) where
-  -- the bit of a pair of the rows, a person or not
-  raw_bit : (u v : ℕ) → u < n → v < 8 * stride n → bit_at n bits u v ≡ bit_of (get_or bits (place n u v) 0) (v % 8)
-  raw_bit u v a b = elim (cases_lt v n) [
-    | inl l ↦ bit_inside n bits u v a l
-    | inr l ↦
-        bit_past n bits u v l ∙ sym (clear u v)
-        ∙ ap (λ t. t && bit_of (get_or bits (place n u v) 0) (v % 8)) (and_from (ltb u n) _ (lt-ltb u n a) (and_from (leb n v) _ (le-leb n v l) (lt-ltb v (8 * stride n) b)))
-  ]
-
   byte_at : (i : ℕ) → i < n * stride n → get_or bits i 0 ≡ byte_of (λ j. bit_at n bits (i / stride n) (8 * (i % stride n) + j))
   byte_at i h =
       let u = i / stride n in
@@ -70,7 +61,7 @@ module _ (n : ℕ) (bits : List ℕ) (clear : (x y : ℕ) → spare_at n bits x 
       let group : v / 8 ≡ q = omega arith in
       let at : place n u v ≡ i = ap (λ t. u * stride n + t) group ∙ whole in
       let low : v % 8 ≡ j = omega arith in
-      ap₂ (λ a b. bit_of (get_or bits a 0) b) (sym at) (sym low) ∙ sym (raw_bit u v row (omega arith))))
+      ap₂ (λ a b. bit_of (get_or bits a 0) b) (sym at) (sym low) ∙ sym (row_bit n bits u v (clear u v) row (omega arith))))
 
   pub packs : {G : Type 0} (grades : List G) → n * stride n ≤ length bits → bits ≡ packed (net_in n bits grades) ++ drop (n * stride n) bits
   packs grades room =

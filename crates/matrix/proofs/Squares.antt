@@ -21,6 +21,10 @@ bit_past n bits u v h = and_right (ltb u n) _ (and_left (ltb v n) _ (le-ltb v n 
 pub bit_nobody : (n : ℕ) (bits : List ℕ) (u v : ℕ) → n ≤ u → bit_at n bits u v ≡ false
 bit_nobody n bits u v h = and_left (ltb u n) _ (le-ltb u n h)
 
+-- the bit of a pair of the rows, a person or not, where no spare bit is set
+pub row_bit : (n : ℕ) (bits : List ℕ) (u v : ℕ) → spare_at n bits u v ≡ false → u < n → v < 8 * stride n → bit_at n bits u v ≡ bit_of (get_or bits (place n u v) 0) (v % 8)
+row_bit n bits u v clear h l = grind (arith, nat_tests)
+
 -- one bit of a power of two
 power_bit_other : (j k : ℕ) → (j ≡ k → ⊥) → (2 ^ j / 2 ^ k) % 2 ≡ 0
 power_bit_other j k ne = elim (cases_lt j k) [

@@ -1,8 +1,8 @@
 -- A row of the square, read in strips of eight bytes, and copied strip by strip. Assumes nothing.
-use Rattle.std.proofs.Common.{◌≡◌, ℕ, zero, suc, ◌+◌, ◌-◌, ◌*◌, ◌/◌, ◌%◌, ◌<◌, ◌≤◌, min, false, cond, ◌&&◌, ltb, leb, List, [], ◌∷◌, ◌++◌, length, get_or, take, drop, filter, sym, ap, ◌∙◌, ap₂, inl, inr, arith}
+use Rattle.std.proofs.Common.{◌≡◌, ℕ, zero, suc, ◌+◌, ◌-◌, ◌*◌, ◌/◌, ◌%◌, ◌<◌, ◌≤◌, min, false, cond, List, [], ◌∷◌, ◌++◌, length, get_or, take, drop, filter, sym, ap, ◌∙◌, ap₂, inl, inr, arith}
 use Rattle.std.specs.List.{range_with_len}
 use Rattle.std.proofs.Math.Seq.{drop-nil}
-use Rattle.std.proofs.lemmas.Bool.{cases_lt, lt-ltb, le-leb, le-ltb, and_from}
+use Rattle.std.proofs.lemmas.Bool.{cases_lt, lt-ltb, le-ltb}
 use Rattle.std.proofs.lemmas.List.{append-nil, take_all, drop_all, drop-drop, drop_at, length-append, length-drop, length-take-le, get_or-take, get_or-drop, get_or_append_left, get_or_past}
 use Rattle.std.proofs.lemmas.Nat.{mul-le}
 use Rattle.grades.specs.Places.{onto}
@@ -11,7 +11,7 @@ use Rattle.networks.proofs.Rising.{kept_none, kept_past}
 use Rattle.matrix.specs.Bits.{stride, place, row_of, bit_of, bit_at, spare_at}
 use Rattle.matrix.specs.Words.{set_bits}
 use Rattle.matrix.proofs.Bytes.{no_bit, set_kept}
-use Rattle.matrix.proofs.Squares.{bit_inside, bit_past, bit_nobody}
+use Rattle.matrix.proofs.Squares.{row_bit, bit_past, bit_nobody}
 
 -- the first eight of what is left, and the rest
 front_byte : (rest bs after : List ℕ) (k : ℕ) → rest ≡ bs ++ after → length bs ≡ min 8 (length rest) → k < 8 → get_or bs k 0 ≡ get_or rest k 0
@@ -77,15 +77,8 @@ module _ (n : ℕ) (bits : List ℕ) (u : ℕ) where
           let r : j % 8 ≡ v % 8 = omega arith in
           let raw : bit_of w j ≡ bit_of (get_or row at 0) (v % 8) = read j ∙ ap₂ bit_of (byte (j / 8) k) r in
           elim (cases_lt at (stride n)) [
-            | inl in' ↦ (
-                let there : bit_of w j ≡ bit_of (get_or bits (place n u v) 0) (v % 8) =
-                raw ∙ ap (λ t. bit_of t (v % 8)) (get_or-take (stride n) (drop (u * stride n) bits) at 0 in' ∙ get_or-drop (u * stride n) bits at 0 ∙ ap (λ t. get_or bits t 0) q) in
-                elim (cases_lt v n) [
-                  | inl l ↦ there ∙ sym (bit_inside n bits u v person l)
-                  | inr l ↦ there
-                      ∙ sym (ap (λ t. t && bit_of (get_or bits (place n u v) 0) (v % 8)) (and_from (ltb u n) _ (lt-ltb u n person) (and_from (leb n v) _ (le-leb n v l) (lt-ltb v (8 * stride n) (omega arith)))))
-                      ∙ clear u v ∙ sym (bit_past n bits u v l)
-                ])
+            | inl in' ↦ raw ∙ ap (λ t. bit_of t (v % 8)) (get_or-take (stride n) (drop (u * stride n) bits) at 0 in' ∙ get_or-drop (u * stride n) bits at 0 ∙ ap (λ t. get_or bits t 0) q)
+                ∙ sym (row_bit n bits u v (clear u v) person (omega arith))
             | inr out ↦ raw ∙ ap (λ t. bit_of t (v % 8)) (get_or_past row at 0 (omega (arith, ap length (row_there person), row_length person))) ∙ no_bit (v % 8) ∙ sym (bit_past n bits u v (omega arith))
           ]
 

@@ -1,5 +1,5 @@
 -- The numbers below n that pass a test, in order: what neighbours are. Assumes nothing.
-use Rattle.std.proofs.Common.{◌≡◌, ℕ, zero, suc, ◌+◌, ◌-◌, ◌<◌, ◌≤◌, Bool, true, false, cond, List, [], ◌∷◌, ◌++◌, length, get_or, take, set, Some, None, filter, Option, refl, ap, ◌∙◌, inl, inr, arith}
+use Rattle.std.proofs.Common.{◌≡◌, ℕ, zero, suc, ◌+◌, ◌-◌, ◌<◌, ◌≤◌, Bool, false, cond, List, [], ◌∷◌, ◌++◌, length, get_or, take, set, Some, None, filter, Option, refl, ap, ◌∙◌, inl, inr, arith}
 use Rattle.std.specs.List.{slice_get, range_with_len, AllByRecursion}
 use Rattle.std.proofs.lemmas.List.FromFn.{length-range_with_len}
 use Rattle.std.proofs.lemmas.List.Sums.{length-filter, count_by-le-length}
@@ -8,7 +8,7 @@ use Rattle.std.proofs.ByRecursion.{All-get_or, all_kept_by}
 use Rattle.std.proofs.lemmas.List.{append-nil, length-append}
 use Rattle.std.proofs.lemmas.Grind.{common_steps}
 use Rattle.std.proofs.lemmas.Option.{slice_get-get_or}
-use Rattle.std.proofs.lemmas.Bool.{cases_eq, cases_lt}
+use Rattle.std.proofs.lemmas.Bool.{cases_lt}
 
 all_counting : (a n m : ℕ) → a + n ≤ m → AllByRecursion (λ x. x < m) (range_with_len a n)
 all_counting a zero m h = tt
@@ -64,24 +64,16 @@ kept_few p a n = omega (arith, length-filter p (range_with_len a n), count_by-le
 
 -- one number that fails is not among them, nor are two
 kept_miss : (p : ℕ → Bool) (a n u : ℕ) → a ≤ u → u < a + n → p u ≡ false → length (filter p (range_with_len a n)) + 1 ≤ n
-kept_miss p a zero u l h f = absurd (omega arith)
-kept_miss p a (suc n) u l h f = elim (cases_eq a u) [
-  | inl e ↦ (
-      let here = ap p e ∙ f in
-      let r = kept_few p (a + 1) n in
-      let s = ap (λ b. length (cond b (a ∷ filter p (range_with_len (a + 1) n)) (filter p (range_with_len (a + 1) n)))) here in
-      omega arith)
-  | inr d ↦ (
-      let r = kept_miss p (a + 1) n u (omega arith) (omega arith) f in
-      let s = kept_first p a n in
-      omega arith)
-]
-  where
-    kept_first : (p : ℕ → Bool) (a n : ℕ) → length (filter p (range_with_len a (suc n))) ≤ suc (length (filter p (range_with_len (a + 1) n)))
-    kept_first p a n = elim (p a) as (λ b. length (cond b (a ∷ filter p (range_with_len (a + 1) n)) (filter p (range_with_len (a + 1) n))) ≤ suc (length (filter p (range_with_len (a + 1) n)))) [
-      | true ↦ omega arith
-      | false ↦ omega arith
-    ]
+kept_miss p a n u l h f =
+    let k = u - a in
+    let rest = n - (k + 1) in
+    let front = filter p (range_with_len a k) in
+    let back = filter p (range_with_len (u + 1) rest) in
+    let size : n ≡ k + suc rest = omega arith in
+    let here : a + k ≡ u = omega arith in
+    let cut = ap (range_with_len a) size ∙ counting_append a k (suc rest) ∙ ap (λ t. range_with_len a k ++ range_with_len t (suc rest)) here in
+    let kept = ap (filter p) cut ∙ filter-append p (range_with_len a k) (u ∷ range_with_len (u + 1) rest) ∙ ap (λ b. front ++ cond b (u ∷ back) back) f in
+    omega (arith, ap length kept, length-append front back, kept_few p a k, kept_few p (u + 1) rest)
 
 pub kept_misses : (p : ℕ → Bool) (n u v : ℕ) → u < n → v < n → (u ≡ v → ⊥) → p u ≡ false → p v ≡ false → length (filter p (range_with_len 0 n)) + 2 ≤ n
 kept_misses p n u v a b ne f g = elim (cases_lt u v) [ inl l ↦ go u v l b f g | inr l ↦ go v u (omega arith) a g f ]
