@@ -23,20 +23,6 @@ loop-i-init c =
       copied = sym (ap (λ t. onto t c.args.places.now) none ∙ onto_nil c.args.places.now);
     }
 
-pub overflow_mul-i : goal.overflow_mul-i
-overflow_mul-i c =
-    let s = c.args.self.now in
-    let steps = c.in-Some.ensures.steps in
-    let few = few_strips s.n s.bits.items c.args.u s.room s.few c.loop-i.i-iterator.count (omega (arith, ap length c.loop-i.invariant.left, steps.0.1.2)) in
-    search rules
-
-pub copy_set_bits-count-requires : goal.copy_set_bits-count-requires
-copy_set_bits-count-requires c =
-    let s = c.args.self.now in
-    let steps = c.in-Some.ensures.steps in
-    let few = few_strips s.n s.bits.items c.args.u s.room s.few c.loop-i.i-iterator.count (omega (arith, ap length c.loop-i.invariant.left, steps.0.1.2)) in
-    omega (arith, steps.1)
-
 pub overflow_add-count : goal.overflow_add-count
 overflow_add-count c =
     let s = c.args.self.now in
