@@ -67,7 +67,7 @@ impl Square {
     }
 
     // The persons in u's row, as many as there are places; the answer is how many there are.
-    #[tactic(auto, using(crate::proofs::Strips::few_strips))]
+    #[tactic(auto, using(crate::proofs::Strips::few_strips, crate::proofs::Strips::row_whole, crate::proofs::Digits::bits_few, networks::proofs::Rising::kept_few))]
     pub(crate) fn copy_row(&self, u: usize, places: &mut [u32]) -> usize
         ensures count { result ≡ length (near_in self.now.n self.now.bits.items u) }
         ensures copied { places.new ≡ onto (near_in self.now.n self.now.bits.items u) places.old }

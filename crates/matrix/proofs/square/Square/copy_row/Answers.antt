@@ -3,11 +3,10 @@ use Rattle.std.specs.List.{range_with_len}
 use Rattle.std.proofs.lemmas.List.{length-append}
 use Rattle.grades.specs.Places.{onto}
 use Rattle.grades.proofs.Fronts.{onto_nil}
-use Rattle.networks.proofs.Rising.{kept_append, kept_few}
+use Rattle.networks.proofs.Rising.{kept_append}
 use Rattle.matrix.specs.Bits.{row_of, bit_at}
 use Rattle.matrix.specs.Words.{set_bits}
-use Rattle.matrix.proofs.Digits.{bits_few}
-use Rattle.matrix.proofs.Strips.{cut_rest, few_strips, row_whole, strip_kept, onto_part}
+use Rattle.matrix.proofs.Strips.{cut_rest, strip_kept, onto_part}
 use Rattle.matrix.proofs.square.Square.copy_row.Goals as goal
 
 pub loop-i-init : goal.loop-i-init
@@ -22,18 +21,6 @@ loop-i-init c =
       counted = sym (ap length none);
       copied = sym (ap (λ t. onto t c.args.places.now) none ∙ onto_nil c.args.places.now);
     }
-
-pub overflow_add-count : goal.overflow_add-count
-overflow_add-count c =
-    let s = c.args.self.now in
-    let steps = c.in-Some.ensures.steps in
-    let m = c.loop-i.i-iterator.count in
-    let few = few_strips s.n s.bits.items c.args.u s.room s.few m (omega (arith, ap length c.loop-i.invariant.left, steps.0.1.2)) in
-    let seen = kept_few (bit_at s.n s.bits.items c.args.u) 0 (64 * m) in
-    let more = bits_few (64 * c.in-Some.i) c.word.result (omega arith) in
-    let count = c.loop-i.invariant.counted in
-    let added = c.copy_set_bits-count.ensures.count in
-    search rules
 
 pub loop-i-preserved : goal.loop-i-preserved
 loop-i-preserved c =
@@ -62,9 +49,3 @@ loop-i-preserved c =
           ∙ ap (λ t. onto t c.args.places.now) all;
     }
 
-pub returns : goal.returns
-returns c =
-    let s = c.args.self.now in
-    let none = c.in-None.ensures.steps in
-    let all = row_whole s.n s.bits.items c.args.u s.room c.loop-i.i-iterator.count (omega (arith, ap length c.loop-i.invariant.left, none.0.1.0)) in
-    record { count = c.loop-i.invariant.counted ∙ ap length all; copied = c.loop-i.invariant.copied ∙ ap (λ t. onto t c.args.places.now) all }
