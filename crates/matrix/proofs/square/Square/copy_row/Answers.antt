@@ -48,4 +48,3 @@ loop-i-preserved c =
       copied = onto_part seen new c.args.places.now c.loop-i.places c.copy_set_bits-count.new.places c.min-at.result inv.copied (at ∙ ap (λ k. min k (length c.loop-i.places)) inv.counted) c.copy_set_bits-count.ensures.copied
           ∙ ap (λ t. onto t c.args.places.now) all;
     }
-
