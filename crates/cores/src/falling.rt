@@ -1,4 +1,5 @@
 // Persons fall: one, those with too few neighbours, and all who cannot stand without them.
+// Lent lanes carry no ghost field, so that they fit is asked by one name.
 ghost use Rattle.std.specs.Prelude.{◌≡◌, ℕ, ◌<◌, [], length};
 ghost use Rattle.networks.specs.Net.{neighbours};
 ghost use Rattle.meaning.specs.Persons.{graph_of};

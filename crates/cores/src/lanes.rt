@@ -50,7 +50,7 @@ impl<'a> Cascade<'a> {
         }
     }
 
-    // The k-core of those who stand is left.
+    // The k-core of those who stand is left. k and the mark are new with each call, and in no struct.
     pub fn shrink<N: Network>(&mut self, net: &N, k: u32, mark: u32)
         ensures same { SameLanes self.old self.new }
         ensures unfit { let old = lanes_of self.old in fitting (N.Network.meaning net.now).persons mark old self.old.near.now ≡ false → (lanes_of self.new ≡ old) × (self.new.near.now ≡ self.old.near.now) }

@@ -5,29 +5,29 @@ ghost use Rattle.faults.specs.Numbers.{number_of};
 #[derive(Clone, Copy, PartialEq, Eq, Debug)]
 pub enum CallFault {
     // an opening has more persons, or longer rows, than are allowed
-    TooLarge,
+    TooLarge = 6,
     // an opening's memory is shorter than its kind needs
-    ShortMemory,
+    ShortMemory = 7,
     // a person of a link, an unlink or a regrade is not below the number of persons
-    NoSuchPerson,
+    NoSuchPerson = 8,
     // the two persons of a link or an unlink are one
-    SamePerson,
+    SamePerson = 9,
     // the pair to link is linked
-    AlreadyLinked,
+    AlreadyLinked = 10,
     // the pair to unlink is not linked
-    NotLinked,
+    NotLinked = 11,
     // a person to link has at least as many links as the ceiling
-    AtCeiling,
+    AtCeiling = 12,
     // a query has a k, an r or a choice outside its limits
-    BadQuery,
+    BadQuery = 13,
     // there is no valid tree
-    NoTree,
+    NoTree = 14,
     // scratch or heap places are short
-    ShortScratch,
+    ShortScratch = 15,
     // the result needs more places than it is lent
-    NoRoom,
+    NoRoom = 16,
     // the person is the weakest of no circle for k
-    NotWeakest,
+    NotWeakest = 17,
 }
 
 // The number by which a refusal is told to people and programs.
@@ -35,19 +35,6 @@ impl From<CallFault> for u8 {
     ghost from_gives = { λ fault number. number ≡ number_of fault };
 
     fn from(fault: CallFault) -> u8 {
-        match fault {
-            CallFault::TooLarge => 6,
-            CallFault::ShortMemory => 7,
-            CallFault::NoSuchPerson => 8,
-            CallFault::SamePerson => 9,
-            CallFault::AlreadyLinked => 10,
-            CallFault::NotLinked => 11,
-            CallFault::AtCeiling => 12,
-            CallFault::BadQuery => 13,
-            CallFault::NoTree => 14,
-            CallFault::ShortScratch => 15,
-            CallFault::NoRoom => 16,
-            CallFault::NotWeakest => 17,
-        }
+        fault as u8
     }
 }

@@ -7,6 +7,7 @@ use crate::frame::Frame;
 
 #[derive(Clone, Copy, PartialEq, Eq, Debug)]
 pub struct Example {
+    // a number, since a row is of either side
     pub kind: u8,
     pub frame: Frame,
     // As many characters as twice the length: a clause cannot name a table that holds references.

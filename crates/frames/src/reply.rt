@@ -62,7 +62,7 @@ pub enum Reply {
     Core { person: u16, number: u16 },
     Holder { person: u16 },
     NoHolder,
-    // the line that is refused, counted from 1
+    // the line that is refused, counted from 1; any number may be typed
     Refusal { number: u8, layer: Layer, line: u32 },
 }
 

@@ -23,6 +23,8 @@ pub(crate) struct TidyRows {
     ghost listed: { Listed n span counts.items cells.items },
 }
 
+// A pair of persons is two numbers in every call, so that they are below n is asked of them and stands in no type.
+// To enter and to take out ask different facts, so each has functions of its own, and none takes the edit as a closure.
 impl TidyRows {
     ghost use Rattle.rows.specs.Tidy.{links, in_row, frame};
 
