@@ -47,10 +47,10 @@ impl<'a> Cascade<'a> {
 
     // Lowers the degrees of the neighbours of u, who has fallen; whoever has fewer than k left falls too.
     fn settle<N: Network>(&mut self, net: &N, u: usize, k: u32, mark: u32)
-        requires { Fits (N.Network.meaning net.now).persons mark (lanes_of self.old) self.old.near.now }
+        requires { Fits (N.meaning net.now).persons mark (lanes_of self.old) self.old.near.now }
         ensures same { SameLanes self.old self.new }
-        ensures fits { Fits (N.Network.meaning net.now).persons mark (lanes_of self.new) self.new.near.now }
-        ensures settled { lanes_of self.new ≡ settled k mark (neighbours (N.Network.meaning net.now) u) (lanes_of self.old) }
+        ensures fits { Fits (N.meaning net.now).persons mark (lanes_of self.new) self.new.near.now }
+        ensures settled { lanes_of self.new ≡ settled k mark (neighbours (N.meaning net.now) u) (lanes_of self.old) }
     {
         let d = net.copy_neighbours(u, self.near);
         // by index: a loop that lends `near` could not call on all the lanes
@@ -62,10 +62,10 @@ impl<'a> Cascade<'a> {
 
     // Everyone who stands with a degree below k falls.
     pub(crate) fn drop_weak<N: Network>(&mut self, net: &N, k: u32, mark: u32)
-        requires { Fits (N.Network.meaning net.now).persons mark (lanes_of self.old) self.old.near.now }
+        requires { Fits (N.meaning net.now).persons mark (lanes_of self.old) self.old.near.now }
         ensures same { SameLanes self.old self.new }
-        ensures fits { Fits (N.Network.meaning net.now).persons mark (lanes_of self.new) self.new.near.now }
-        ensures falling { let g = graph_of (N.Network.meaning net.now) in let old = lanes_of self.old in Ready g old → Falling g k g.size mark (alive old.fell) old (lanes_of self.new) old.tail [] }
+        ensures fits { Fits (N.meaning net.now).persons mark (lanes_of self.new) self.new.near.now }
+        ensures falling { let g = graph_of (N.meaning net.now) in let old = lanes_of self.old in Ready g old → Falling g k g.size mark (alive old.fell) old (lanes_of self.new) old.tail [] }
     {
         // by index: a fall writes the lanes that the loop reads
         for u in 0..self.fell.len() {
@@ -77,9 +77,9 @@ impl<'a> Cascade<'a> {
 
     // All whom the falls from `head` on leave with a degree below k fall too.
     pub(crate) fn follow<N: Network>(&mut self, net: &N, k: u32, mark: u32, mut head: usize)
-        requires { Fits (N.Network.meaning net.now).persons mark (lanes_of self.old) self.old.near.now }
+        requires { Fits (N.meaning net.now).persons mark (lanes_of self.old) self.old.near.now }
         ensures same { SameLanes self.old self.new }
-        ensures fallen { let g = graph_of (N.Network.meaning net.now) in (X : Set) (old : Lanes) → Falling g k g.size mark X old (lanes_of self.old) head [] → (alive self.new.fell.now ≡ core g k X) × Fallen g k mark old (lanes_of self.new) }
+        ensures fallen { let g = graph_of (N.meaning net.now) in (X : Set) (old : Lanes) → Falling g k g.size mark X old (lanes_of self.old) head [] → (alive self.new.fell.now ≡ core g k X) × Fallen g k mark old (lanes_of self.new) }
     {
         // by index: the order grows while it is read
         while head < self.tail {

@@ -9,6 +9,7 @@ ghost use Rattle.cores.specs.Lent.{lanes_of, SameLanes};
 use networks::Network;
 
 // Lanes of numbers that a caller lends, with a place for each person.
+// Lanes that do not fit are left as they are, which each call promises: none could fail, and lent lanes have no type to say it.
 #[derive(Drop)]
 pub struct Cascade<'a> {
     // 0 for who stands, else the mark with which they fell: a number, since one row of numbers is lent for all lanes
@@ -23,7 +24,7 @@ pub struct Cascade<'a> {
 
 impl<'a> Cascade<'a> {
     fn fits<N: Network>(&self, net: &N, mark: u32) -> bool
-        ensures { result ≡ fitting (N.Network.meaning net.now).persons mark (lanes_of self.now) self.now.near.now }
+        ensures { result ≡ fitting (N.meaning net.now).persons mark (lanes_of self.now) self.now.near.now }
     {
         let n = net.persons();
         mark > 0
@@ -38,8 +39,8 @@ impl<'a> Cascade<'a> {
     pub fn raise<N: Network>(&mut self, net: &N)
         ensures same { SameLanes self.old self.new }
         ensures rest { (self.new.order.now ≡ self.old.order.now) × (self.new.tail ≡ self.old.tail) × (self.new.near.now ≡ self.old.near.now) }
-        ensures unfit { let n = (N.Network.meaning net.now).persons in (length self.old.fell.now == n && length self.old.degree.now == n) ≡ false → (self.new.fell.now ≡ self.old.fell.now) × (self.new.degree.now ≡ self.old.degree.now) }
-        ensures raised { let g = graph_of (N.Network.meaning net.now) in (length self.old.fell.now == g.size && length self.old.degree.now == g.size) ≡ true → (alive self.new.fell.now ≡ everyone g) × Counted g self.new.fell.now self.new.degree.now }
+        ensures unfit { let n = (N.meaning net.now).persons in (length self.old.fell.now == n && length self.old.degree.now == n) ≡ false → (self.new.fell.now ≡ self.old.fell.now) × (self.new.degree.now ≡ self.old.degree.now) }
+        ensures raised { let g = graph_of (N.meaning net.now) in (length self.old.fell.now == g.size && length self.old.degree.now == g.size) ≡ true → (alive self.new.fell.now ≡ everyone g) × Counted g self.new.fell.now self.new.degree.now }
     {
         let n = net.persons();
         if self.fell.len() == n && self.degree.len() == n {
@@ -53,8 +54,8 @@ impl<'a> Cascade<'a> {
     // The k-core of those who stand is left. k and the mark are new with each call, and in no struct.
     pub fn shrink<N: Network>(&mut self, net: &N, k: u32, mark: u32)
         ensures same { SameLanes self.old self.new }
-        ensures unfit { let old = lanes_of self.old in fitting (N.Network.meaning net.now).persons mark old self.old.near.now ≡ false → (lanes_of self.new ≡ old) × (self.new.near.now ≡ self.old.near.now) }
-        ensures fallen { let g = graph_of (N.Network.meaning net.now) in let old = lanes_of self.old in let new = lanes_of self.new in fitting g.size mark old self.old.near.now ≡ true → Ready g old → (alive new.fell ≡ core g k (alive old.fell)) × Fallen g k mark old new }
+        ensures unfit { let old = lanes_of self.old in fitting (N.meaning net.now).persons mark old self.old.near.now ≡ false → (lanes_of self.new ≡ old) × (self.new.near.now ≡ self.old.near.now) }
+        ensures fallen { let g = graph_of (N.meaning net.now) in let old = lanes_of self.old in let new = lanes_of self.new in fitting g.size mark old self.old.near.now ≡ true → Ready g old → (alive new.fell ≡ core g k (alive old.fell)) × Fallen g k mark old new }
     {
         if self.fits(net, mark) {
             let head = self.tail;
@@ -66,8 +67,8 @@ impl<'a> Cascade<'a> {
     // Where everyone who stands has degree k at least: w falls, and all who cannot stand without.
     pub fn take_out<N: Network>(&mut self, net: &N, w: usize, k: u32, mark: u32)
         ensures same { SameLanes self.old self.new }
-        ensures unfit { let old = lanes_of self.old in fitting (N.Network.meaning net.now).persons mark old self.old.near.now ≡ false → (lanes_of self.new ≡ old) × (self.new.near.now ≡ self.old.near.now) }
-        ensures fallen { let g = graph_of (N.Network.meaning net.now) in let old = lanes_of self.old in let new = lanes_of self.new in fitting g.size mark old self.old.near.now ≡ true → Ready g old → ((v : ℕ) → v ∈ alive old.fell → k ≤ slice_index old.degrees v) → (alive new.fell ≡ core g k (without (alive old.fell) w)) × Fallen g k mark old new }
+        ensures unfit { let old = lanes_of self.old in fitting (N.meaning net.now).persons mark old self.old.near.now ≡ false → (lanes_of self.new ≡ old) × (self.new.near.now ≡ self.old.near.now) }
+        ensures fallen { let g = graph_of (N.meaning net.now) in let old = lanes_of self.old in let new = lanes_of self.new in fitting g.size mark old self.old.near.now ≡ true → Ready g old → ((v : ℕ) → v ∈ alive old.fell → k ≤ slice_index old.degrees v) → (alive new.fell ≡ core g k (without (alive old.fell) w)) × Fallen g k mark old new }
     {
         if self.fits(net, mark) && w < self.fell.len() && self.fell[w] == 0 {
             let first = self.tail;

@@ -31,11 +31,11 @@ impl<'a> Cascade<'a> {
 
 // The core numbers, into the first places of the row.
 fn number_all<N: Network>(net: &N, mut cascade: Cascade, row: &mut [u32])
-    requires lanes { Fits (N.Network.meaning net.now).persons 1 (lanes_of cascade) cascade.near.now }
+    requires lanes { Fits (N.meaning net.now).persons 1 (lanes_of cascade) cascade.near.now }
     requires start { cascade.tail ≡ 0 }
-    requires places { (N.Network.meaning net.now).persons ≤ length row.old }
-    ensures numbers { (v : ℕ) → v < (N.Network.meaning net.now).persons → slice_index row.new v ≡ core_number (graph_of (N.Network.meaning net.now)) v }
-    ensures rest { (v : ℕ) → (N.Network.meaning net.now).persons ≤ v → slice_index row.new v ≡ slice_index row.old v }
+    requires places { (N.meaning net.now).persons ≤ length row.old }
+    ensures numbers { (v : ℕ) → v < (N.meaning net.now).persons → slice_index row.new v ≡ core_number (graph_of (N.meaning net.now)) v }
+    ensures rest { (v : ℕ) → (N.meaning net.now).persons ≤ v → slice_index row.new v ≡ slice_index row.old v }
 {
     cascade.raise(net);
     cascade.note(0, row);
@@ -49,9 +49,9 @@ fn number_all<N: Network>(net: &N, mut cascade: Cascade, row: &mut [u32])
 
 // The core number of each person, into the first places of the row.
 pub fn cores<N: Network>(net: &N, scratch: &mut [u32], row: &mut [u32]) -> Result<(), CallFault>
-    ensures answer { result ≡ answered (cores_fault (N.Network.meaning net.now).persons (length scratch.old) (length row.old)) tt }
-    ensures numbers { row.new ≡ unless (cores_fault (N.Network.meaning net.now).persons (length scratch.old) (length row.old)) (onto (cores_of (N.Network.meaning net.now)) row.old) row.old }
-    ensures kept { KeptIf (cores_fault (N.Network.meaning net.now).persons (length scratch.old) (length row.old)) scratch.old scratch.new }
+    ensures answer { result ≡ answered (cores_fault (N.meaning net.now).persons (length scratch.old) (length row.old)) tt }
+    ensures numbers { row.new ≡ unless (cores_fault (N.meaning net.now).persons (length scratch.old) (length row.old)) (onto (cores_of (N.meaning net.now)) row.old) row.old }
+    ensures kept { KeptIf (cores_fault (N.meaning net.now).persons (length scratch.old) (length row.old)) scratch.old scratch.new }
 {
     let n = net.persons();
     if scratch.len() / 8 < n {

@@ -30,7 +30,7 @@ pub enum CallFault {
     NotWeakest = 17,
 }
 
-// The number by which a refusal is told to people and programs.
+// The number by which a refusal is told to people and programs, and no text beside it.
 impl From<CallFault> for u8 {
     ghost from_gives = { λ fault number. number ≡ number_of fault };
 

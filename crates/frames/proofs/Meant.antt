@@ -1,11 +1,18 @@
 -- Every kind of request, at its length, is read. Assumes nothing.
-use Rattle.std.proofs.Common.{◌≡◌, ℕ, ◌+◌, ◌≤◌, true, List, length, take, drop, is_some, Some, None, Option, refl, ap, ◌∙◌, arith}
+use Rattle.std.proofs.Common.{◌≡◌, ℕ, ◌+◌, ◌≤◌, Bool, true, false, cond, eqb, List, length, take, drop, is_some, Some, None, Option, refl, ap, ◌∙◌, arith}
 use Rattle.std.proofs.lemmas.List.{length-drop, length-take-le}
+use Rattle.std.proofs.lemmas.Bool.{eqb-true, eqb-false}
 use Rattle.std.proofs.lemmas.Bool.Decides.{nat_tests}
-use Rattle.frames.specs.Fields.{some_kind}
 use Rattle.frames.specs.Frames.{kind_in, word_at}
 use Rattle.frames.specs.Kinds.{is_request, length_of}
 use Rattle.frames.specs.Requests.{request_of, regraded}
+
+some_kind : {X : Type 0} (k n : ℕ) (a rest : Option X) → (k ≡ n → is_some a ≡ true) → ((k ≡ n → ⊥) → is_some rest ≡ true) → is_some (cond (eqb k n) a rest) ≡ true
+some_kind k n a rest f g = go (eqb k n) refl
+  where
+    go : (t : Bool) → eqb k n ≡ t → is_some (cond t a rest) ≡ true
+    go true e = f (eqb-true k n e)
+    go false e = g (eqb-false k n e)
 
 module _ {G : Type 0} (get : List ℕ → Option G) (size : ℕ) (known : (bs : List ℕ) → length bs ≡ size → is_some (get bs) ≡ true) where
   regraded_some : (p : ℕ) (o : Option G) → is_some o ≡ true → is_some (regraded p o) ≡ true

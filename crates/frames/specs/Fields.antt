@@ -1,5 +1,9 @@
 -- Fields of two and four bytes, read and written, and the front of a frame as its bytes: lemmas for the laws of messages. Assumes nothing.
-use Rattle.std.proofs.Common.{◌≡◌, ℕ, ◌+◌, ◌-◌, ◌*◌, ◌/◌, ◌%◌, ◌<◌, ◌≤◌, Bool, true, false, cond, eqb, List, [], ◌∷◌, ◌++◌, map, length, get_or, take, drop, is_some, Some, None, Option, sym, refl, ap, ◌∙◌, subst, inl, inr, arith}
+--     byte_at, front              a byte of some bytes, and their front, one by one
+--     word_back, word_at_lem, long_at_lem   two and four bytes as a number, and that number as the bytes
+--     no_field .. one_word_rest   the bytes before the check, for each sequence of fields
+--     landed, this_kind, no_kind  what is read is of one of the kinds
+use Rattle.std.proofs.Common.{◌≡◌, ℕ, ◌+◌, ◌-◌, ◌*◌, ◌/◌, ◌%◌, ◌<◌, ◌≤◌, Bool, true, false, cond, eqb, List, [], ◌∷◌, ◌++◌, map, length, get_or, take, drop, Some, None, Option, sym, refl, ap, ◌∙◌, subst, inl, inr, arith}
 use Rattle.std.specs.List.{range_with_len, AllByRecursion}
 use Rattle.std.proofs.lemmas.List.FromFn.{fill_by_all}
 use Rattle.std.proofs.ByRecursion.{All-get_or}
@@ -97,10 +101,3 @@ this_kind {Y = Y} k n a rest q this other = go (eqb k n) refl
 
 pub no_kind : {X Y : Type 0} (q : X) → None ≡ Some q → Y
 no_kind q e = let z : ◌≡◌ {A = ℕ} 0 1 = cc in absurd (omega arith)
-
-pub some_kind : {X : Type 0} (k n : ℕ) (a rest : Option X) → (k ≡ n → is_some a ≡ true) → ((k ≡ n → ⊥) → is_some rest ≡ true) → is_some (cond (eqb k n) a rest) ≡ true
-some_kind k n a rest f g = go (eqb k n) refl
-  where
-    go : (t : Bool) → eqb k n ≡ t → is_some (cond t a rest) ≡ true
-    go true e = f (eqb-true k n e)
-    go false e = g (eqb-false k n e)

@@ -1,4 +1,5 @@
 -- Replies are read from the bytes that they are written as, and from no others. Assumes nothing.
+--     reply_forth                 what is read fits, and is what was written
 use Rattle.std.specs.Prelude.{◌≡◌, ℕ, ◌-◌, ◌<◌, List, ◌∷◌, length, take, Some, None, Option}
 use Rattle.std.specs.List.{AllByRecursion}
 use Rattle.std.proofs.Common.{get_or, sym, refl, ap, ◌∙◌, arith}

@@ -1,4 +1,6 @@
 -- Requests are read from the bytes that they are written as, and from no others. Assumes nothing.
+--     request_back                what is written is read back
+--     request_forth               what is read fits, and is what was written
 use Rattle.std.specs.Prelude.{◌≡◌, ℕ, ◌+◌, ◌-◌, ◌<◌, List, ◌∷◌, ◌++◌, length, take, drop, Some, None, Option, refl}
 use Rattle.std.specs.List.{AllByRecursion}
 use Rattle.std.proofs.Common.{[], ap, ◌∙◌, arith}

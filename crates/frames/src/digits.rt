@@ -16,7 +16,7 @@ pub(crate) fn digit(c: char) -> Result<u8, LineFault>
     }
 }
 
-// The digit of the low half of a byte.
+// The digit of the low half of a byte: by a test, since from_digit gives small letters.
 pub(crate) fn letter(b: u8) -> u8
     ensures { result ≡ letter_of (b % 16) }
 {

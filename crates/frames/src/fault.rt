@@ -31,7 +31,7 @@ impl From<LineFault> for FrameFault {
     }
 }
 
-// The number by which a refusal is told to people and programs.
+// The number by which a refusal is told to people and programs, and no text beside it.
 impl From<FrameFault> for u8 {
     ghost from_gives = { λ f n. n ≡ fault_number f };
 

@@ -26,7 +26,7 @@ impl Frame {
         &self.bytes[..self.len.min(32)]
     }
 
-    // 0 past the end.
+    // 0 past the end, as the definitions read bytes; no kind has that number.
     pub(crate) fn byte_at(&self, i: usize) -> u8
         ensures { result ≡ slice_index (held self.now) i }
     {
@@ -85,7 +85,7 @@ fn sum(bytes: &[u8]) -> u8
     bytes.iter().fold(0u8, |sum, b| sum.wrapping_add(*b))
 }
 
-// The byte that these lack for their sum to be a multiple of 256.
+// The byte that these lack for their sum to be a multiple of 256. Said by a difference, whose value is known outright.
 fn check_byte(bytes: &[u8]) -> u8
     ensures { result ≡ check_of bytes.now }
 {

@@ -7,7 +7,7 @@ use crate::fault::LineFault;
 use crate::frame::Frame;
 
 // The characters in front, and how many there are: by value, so that nothing is allocated.
-// No frame of another size: what a frame holds are bytes, and these are characters.
+// Not one struct with Frame over a size: `bytes` and `text` would lose their names, for one method less.
 #[derive(Clone, Copy, PartialEq, Eq, Debug)]
 pub struct Line {
     pub text: [u8; 64],

@@ -60,6 +60,7 @@ pub enum Request<G> {
     Regrade { person: u16, grade: G },
     Link { u: u16, v: u16 },
     Unlink { u: u16, v: u16 },
+    // k, r and choice as typed; the calls make a query of them, and nothing stands between
     Peel { k: u16, r: u16, choice: u8 },
     Plant,
     Pick { k: u16, r: u16, choice: u8 },
@@ -132,6 +133,7 @@ impl<G: Wire> Message for Request<G> {
         }
     }
 
+    // The public one: what messages owe is not handed out.
     fn kind(&self) -> RequestKind {
         Request::kind(self)
     }

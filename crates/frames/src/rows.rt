@@ -5,7 +5,7 @@ ghost use Rattle.frames.specs.Lines.{padded};
 
 use grades::places::write_front;
 
-// The parts one behind the other, the places behind them 0.
+// The parts one behind the other, the places behind them 0. The row is an array by value, so what is written is counted.
 pub(crate) fn row(parts: &[&[u8]]) -> [u8; 32]
     requires { length (flat_map (λ part. part.now) parts.now) ≤ 32 }
     ensures { result ≡ padded (flat_map (λ part. part.now) parts.now) }

@@ -25,7 +25,7 @@ impl<G: Grade> Ordered for Ranked<G> {
     }
 }
 
-// Whether each is at most the other: so only for one person.
+// Whether each is at most the other: so only for one person. Of the order, and not of ==, which compares the grades' parts.
 pub fn tied<G: Grade>(x: &Ranked<G>, y: &Ranked<G>) -> bool
     ensures value { result ≡ (rank_at_most G.at_most x.now.grade x.now.person y.now.grade y.now.person && rank_at_most G.at_most y.now.grade y.now.person x.now.grade x.now.person) }
     ensures apart { result ≡ true → x.now.person ≡ y.now.person }

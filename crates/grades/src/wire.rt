@@ -14,7 +14,7 @@ pub trait Wire: Grade {
     // its numbers are in the range of their types; so for every grade that a program holds
     ghost InRange: { Self → Type 0 };
 
-    // No Default gives it, since that promises no one value to code over every kind.
+    // A function of its own: Default says a fact of its value and not the value, so a law would have to tie the two.
     ghost nought: { Self };
 
     fn zero() -> Self

@@ -7,6 +7,7 @@ use grades::{Laurels, Points, Ranked};
 use heap::{Ordered, least, put, sort, take};
 use std::test::Fail;
 
+// Two short makers, so that the cases below read as rows of numbers.
 fn points(grade: i32, person: u32) -> Ranked<Points> {
     Ranked {
         grade: Points(grade),
@@ -32,9 +33,9 @@ fn level_points_come_by_number(rt: HostRuntime) -> Result<(), Fail> {
     assert_eq!(rt; least(&places, 3), Some(points(-3, 9)));
     assert_eq!(rt; take(&mut places, 3), Some(points(-3, 9)));
     assert_eq!(rt; put(&mut places, 2, points(-8, 1)), Ok(3));
-    assert_eq!(rt; take(&mut places, 3), Some(points(-8, 1)));
-    assert_eq!(rt; take(&mut places, 2), Some(points(7, 2)));
-    assert_eq!(rt; take(&mut places, 1), Some(points(7, 5)));
+    for (waiting, next) in [(3, points(-8, 1)), (2, points(7, 2)), (1, points(7, 5))] {
+        assert_eq!(rt; take(&mut places, waiting), Some(next));
+    }
     assert_eq!(rt; take(&mut places, 0), None);
     assert_eq!(rt; least(&places, 0), None);
     Ok(())

@@ -3,6 +3,5 @@ mod Clears
 mod Digits
 mod Packs
 mod Pairs
-mod Regrades
 mod Squares
 mod Strips

@@ -26,6 +26,7 @@ impl<G: Grade + Drop> Opening for BitMatrix<G> {
     ghost back = { λ _ _ _ h. h.sized };
 
     fn check(n: usize, memory: &MatrixMemory<G>) -> Result<(), CallFault> {
+        // 4,096 as a sound network is defined; a constant would be one more name for it.
         if n > 4096 {
             return Err(CallFault::TooLarge);
         }

@@ -8,6 +8,7 @@ use grades::Grade;
 use networks::Network;
 use networks::places::item;
 
+// persons and grade read a field each, as in every kind. The meaning goes by parts, of which no one struct has all.
 impl<G: Grade + Drop> Network for BitMatrix<G> {
     type Grade = G;
 

@@ -8,6 +8,7 @@ ghost use Rattle.std.specs.List.{slice_get};
 use crate::words::{copy_set_bits, word};
 use networks::places::fill_front;
 
+// n is not the length of anything: there may be more bits than n persons need, and those stay.
 #[derive(Drop)]
 pub(crate) struct Square {
     pub(crate) n: usize,

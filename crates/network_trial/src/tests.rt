@@ -108,6 +108,7 @@ fn try_out<N: Changing>(net: &mut N, grade: N::Grade) -> Outcome {
     }
 }
 
+// A maker for each kind, since each has memory of its own; a cap is put round by its two fields.
 fn matrix_of<G: Grade>(alloc: Global, zero: G) -> Result<BitMatrix<G>, Fail> {
     let bits = vec![in alloc; 255u8; 7]?;
     let grades = vec![in alloc; zero; 6]?;
@@ -149,6 +150,7 @@ fn answers_have_codes(rt: HostRuntime) {
     );
 }
 
+// A test for each kind, so that a failure names it.
 #[test]
 fn matrix_of_each_grade(rt: HostRuntime) -> Result<(), Fail> {
     assert_eq!(rt;

@@ -1,6 +1,6 @@
 -- A row whose front is filled, and a write among its first places. Assumes nothing.
 use Rattle.std.proofs.Common.{◌≡◌, ℕ, zero, suc, ◌<◌, ◌≤◌, min, List, [], ◌∷◌, length, get_or, take, drop, set, replicate, refl, ap, ◌∙◌, arith}
-use Rattle.std.proofs.lemmas.List.{length-append, length-drop, length-replicate, get_or_append_left, get_or-replicate, drop_at}
+use Rattle.std.proofs.lemmas.List.{length-append, length-drop, length-replicate, get_or_append_left, get_or-replicate}
 use Rattle.networks.specs.Places.{filled}
 
 pub length_filled : {X : Type 0} (n : ℕ) (x : X) (xs : List X) → length (filled n x xs) ≡ length xs
@@ -10,9 +10,6 @@ pub get_d_filled : {X : Type 0} (n : ℕ) (x : X) (xs : List X) (i : ℕ) (d : X
 get_d_filled n x xs i d h l =
     let m : i < min n (length xs) = omega arith in
     get_or_append_left (replicate (min n (length xs)) x) (drop n xs) d i (omega (arith, length-replicate (min n (length xs)) x)) ∙ get_or-replicate (min n (length xs)) i x d m
-
-pub drop_filled : {X : Type 0} (n : ℕ) (x : X) (xs : List X) → n ≤ length xs → drop n (filled n x xs) ≡ drop n xs
-drop_filled n x xs l = drop_at (replicate (min n (length xs)) x) (drop n xs) n (omega (arith, length-replicate (min n (length xs)) x))
 
 -- a write among the first n, or behind them
 pub take_set_in : {X : Type 0} (n : ℕ) (xs : List X) (i : ℕ) (x : X) → take n (set xs i x) ≡ set (take n xs) i x

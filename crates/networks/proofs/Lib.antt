@@ -1,3 +1,4 @@
 pub mod Fills
+pub mod Grading
 pub mod Refusals
 pub mod Rising

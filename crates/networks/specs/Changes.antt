@@ -1,6 +1,8 @@
 -- The three changes of a network: the first refusal that applies, and what a granted one does. Assumes nothing.
 --     is_pair u v x y             x and y are u and v, either way round
 --     with_link, without_link, with_grade   the network changed in just that
+--     pair_fault net u v other    8, 9, or what else applies
+--     new_pair_fault net u v      8, 9, 10 for a link, whatever the ceiling
 --     link_fault ceiling net u v  8, 9, 10, 12 for link; 8, 9, 11 for unlink; 8 for regrade
 --     after_link ceiling net u v  the network after the call, granted or refused
 use Rattle.std.specs.Prelude.{ℕ, Bool, cond, not, ◌&&◌, ◌||◌, Some, None, Option, ◌==◌, nat_le, slice_set}

@@ -6,6 +6,7 @@ ghost use Rattle.networks.specs.Changes.{link_fault, unlink_fault, regrade_fault
 use crate::network::Network;
 use faults::CallFault;
 
+// Each change promises the same of what the opening fixed, in one clause; a record round three clauses would hide them.
 pub trait Changing: Network {
     // the number of links from which on a person takes no more
     ghost ceiling_of: { Self → ℕ };

@@ -8,7 +8,7 @@ use faults::CallFault;
 
 // A person, which is all that a regrade asks.
 pub fn check_regrade<N: Network>(net: &N, u: usize) -> Result<(), CallFault>
-    ensures { result ≡ answered (regrade_fault (N.Network.meaning net.now) u) tt }
+    ensures { result ≡ answered (regrade_fault (N.meaning net.now) u) tt }
 {
     if u < net.persons() {
         Ok(())
@@ -19,7 +19,7 @@ pub fn check_regrade<N: Network>(net: &N, u: usize) -> Result<(), CallFault>
 
 // Two persons.
 fn check_pair<N: Network>(net: &N, u: usize, v: usize) -> Result<(), CallFault>
-    ensures { result ≡ answered (pair_fault (N.Network.meaning net.now) u v None) tt }
+    ensures { result ≡ answered (pair_fault (N.meaning net.now) u v None) tt }
 {
     check_regrade(net, u)?;
     check_regrade(net, v)?;
@@ -31,7 +31,7 @@ fn check_pair<N: Network>(net: &N, u: usize, v: usize) -> Result<(), CallFault>
 
 // A link that no ceiling can refuse.
 pub fn check_new_pair<N: Network>(net: &N, u: usize, v: usize) -> Result<(), CallFault>
-    ensures { result ≡ answered (new_pair_fault (N.Network.meaning net.now) u v) tt }
+    ensures { result ≡ answered (new_pair_fault (N.meaning net.now) u v) tt }
 {
     check_pair(net, u, v)?;
     if net.linked(u, v) {
@@ -41,7 +41,7 @@ pub fn check_new_pair<N: Network>(net: &N, u: usize, v: usize) -> Result<(), Cal
 }
 
 pub fn check_link<N: Network>(net: &N, u: usize, v: usize, ceiling: usize) -> Result<(), CallFault>
-    ensures { result ≡ answered (link_fault ceiling (N.Network.meaning net.now) u v) tt }
+    ensures { result ≡ answered (link_fault ceiling (N.meaning net.now) u v) tt }
 {
     check_new_pair(net, u, v)?;
     if net.degree(u) >= ceiling || net.degree(v) >= ceiling {
@@ -51,7 +51,7 @@ pub fn check_link<N: Network>(net: &N, u: usize, v: usize, ceiling: usize) -> Re
 }
 
 pub fn check_unlink<N: Network>(net: &N, u: usize, v: usize) -> Result<(), CallFault>
-    ensures { result ≡ answered (unlink_fault (N.Network.meaning net.now) u v) tt }
+    ensures { result ≡ answered (unlink_fault (N.meaning net.now) u v) tt }
 {
     check_pair(net, u, v)?;
     if !net.linked(u, v) {

@@ -1,4 +1,4 @@
-// A network for reading: about a person or place that is not there it says 0, false or None.
+// A network for reading: about a person or place that is not there it says 0, false or None, since no question can fail.
 ghost use Rattle.std.specs.Prelude.{◌≡◌};
 ghost use Rattle.grades.specs.Places.{onto};
 ghost use Rattle.networks.specs.Fixed.{Fixed};
@@ -32,11 +32,12 @@ pub trait Network {
     fn grade(&self, u: usize) -> Option<Self::Grade>
         ensures { result ≡ slice_get (meaning self.now).grades u };
 
-    // The neighbours of u, as many as there are places; the answer is how many there are.
+    // The neighbours of u, as many as there are places; the answer is how many there are. The places are lent: nothing is allocated.
     fn copy_neighbours(&self, u: usize, places: &mut [u32]) -> usize
         ensures count { result ≡ degree_of (meaning self.now) u }
         ensures copied { places.new ≡ onto (neighbours (meaning self.now) u) places.old }
     {
+        // Not write_front, since there may be no row to copy: the neighbours are asked for.
         let d = self.degree(u);
         let n = d.min(places.len());
         for (i, place) in places[..n].iter_mut().enumerate() {

@@ -15,7 +15,6 @@ pub fn fill_front<T: Copy>(places: &mut [T], n: usize, x: T)
     ensures { places.new ≡ filled n x places.old }
 {
     let n = n.min(places.len());
-    // Not by fill, which asks that a clone of x cannot fail.
     for place in &mut places[..n] {
         *place = x;
     }

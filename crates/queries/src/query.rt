@@ -8,7 +8,7 @@ pub const MOST_LINKS: u32 = 4095;
 
 pub const MOST_CIRCLES: u32 = 1024;
 
-// There is no query outside its limits.
+// There is no query outside its limits. A type for a number with a limit would say more than these two facts.
 #[derive(Clone, Copy, PartialEq, Eq, Debug)]
 pub struct Query {
     pub(crate) k: u32,

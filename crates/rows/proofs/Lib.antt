@@ -8,7 +8,6 @@ pub mod Tidying
 pub mod Rewriting
 pub mod Pairing
 pub mod Linking
-pub mod Grading
 pub mod Clearing
 pub mod Holding
 pub mod Granted

@@ -1,4 +1,5 @@
 // A rising row of 16-bit numbers: whether one stands in it, and one put in or taken out.
+// A row is part of what its struct owns, so that it rises is asked of a slice and stands in no type.
 ghost use Rattle.std.specs.Prelude.{◌≡◌, ◌-◌, ◌<◌, ◌++◌, length, take, drop};
 ghost use Rattle.grades.specs.Places.{onto};
 ghost use Rattle.rows.specs.Row.{has, place_of};
@@ -20,6 +21,7 @@ pub(crate) fn stands(row: &[u16], v: usize) -> bool
     row.binary_search_by_key(&v, |x| usize::from(*x)).is_ok()
 }
 
+// Not write_front, which copies items of one type: these numbers get wider.
 pub(crate) fn copy(row: &[u16], places: &mut [u32])
     ensures { places.new ≡ onto row.now places.old }
 {

@@ -28,7 +28,7 @@ impl<G: Grade + Drop> Changing for AdjacencyRows<G> {
         Ok(())
     }
 
-    // As in every kind that owns its grades: a check and a write, of which no more can be shared.
+    // A check and a write, as in every kind that owns its grades.
     fn regrade(&mut self, u: usize, grade: G) -> Result<(), CallFault> {
         check_regrade(self, u)?;
         self.grades[u] = grade;

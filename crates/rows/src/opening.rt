@@ -9,6 +9,7 @@ use faults::CallFault;
 use grades::Grade;
 use networks::Opening;
 
+// The memory's parts are named one by one: what is fixed is said of rows and of memory alike.
 impl<G: Grade + Drop> Opening for AdjacencyRows<G> {
     type Memory = RowsMemory<G>;
 
@@ -29,6 +30,7 @@ impl<G: Grade + Drop> Opening for AdjacencyRows<G> {
     // Too many persons or too long rows come first, then a memory that is short.
     fn check(n: usize, memory: &RowsMemory<G>) -> Result<(), CallFault> {
         let span = memory.span;
+        // 4,096 as a sound network is defined; a constant would be one more name for it.
         if n > 4096 || span > 4095 {
             return Err(CallFault::TooLarge);
         }

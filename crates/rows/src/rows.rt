@@ -5,6 +5,7 @@ ghost use Rattle.rows.specs.Tidy.{links};
 
 use crate::tidy::TidyRows;
 
+// The grades and their fact stand in each kind that has them: a part of both would hold n once more, and a fact that it is the same.
 #[derive(Drop)]
 pub struct AdjacencyRows<G> {
     pub(crate) rows: TidyRows,
@@ -14,6 +15,7 @@ pub struct AdjacencyRows<G> {
     ghost bothways: { Bothways (links rows) },
 }
 
+// As handed the memory keeps no fact of tidy rows, so it is not held as such.
 #[derive(Drop)]
 pub struct RowsMemory<G> {
     pub span: usize,

@@ -7,7 +7,7 @@ ghost use Rattle.rows.specs.Rows.{Within, Listed, frame_in};
 use crate::cells::{insert, place, remove};
 use networks::places::fill_front;
 
-// n rows of numbers below n.
+// n rows of numbers below n: counts and cells as they are handed, at a fixed size, and not a Vec a row.
 #[derive(Drop)]
 pub(crate) struct TidyRows {
     pub(crate) n: usize,
