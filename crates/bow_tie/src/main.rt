@@ -1,5 +1,5 @@
 // Opens the bow tie network, links it, tries refused changes, and shows who is linked to whom, with core numbers.
-// The runtime is lent to each function that prints, and so is the network, since a program holds its state in main.
+// The runtime is lent to each function that prints, and so is the network, which the function that opened it holds.
 #![tactic(auto)]
 
 use faults::CallFault;

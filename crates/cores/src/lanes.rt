@@ -9,7 +9,8 @@ ghost use Rattle.cores.specs.Lent.{lanes_of, SameLanes};
 use networks::Network;
 
 // Lanes of numbers that a caller lends, with a place for each person.
-// Lanes that do not fit are left as they are, which each call promises: none could fail, and lent lanes have no type to say it.
+// Lanes that do not fit are left as they are, which each call promises: the rules number no refusal of lanes, and no type can hold that lent lanes fit.
+// That they stay the same memory is one named fact, which each method has to promise.
 #[derive(Drop)]
 pub struct Cascade<'a> {
     // 0 for who stands, else the mark with which they fell: a number, since one row of numbers is lent for all lanes

@@ -30,7 +30,7 @@ pub enum CallFault {
     NotWeakest = 17,
 }
 
-// The number by which a refusal is told to people and programs, and no text beside it.
+// The number by which a refusal is told. No Display or Error: one program prints a refusal, in one place, and there it is this number.
 impl From<CallFault> for u8 {
     ghost from_gives = { λ fault number. number ≡ number_of fault };
 

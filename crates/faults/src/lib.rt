@@ -8,7 +8,7 @@ pub mod call_fault;
 
 pub use call_fault::CallFault;
 
-// 0 for a grant, and a refusal's number: what people are told, and no answer of a call.
+// 0 for a grant, and a refusal's number, as the rules tell answers: a number by promise, for whoever has to tell one.
 pub fn code(answer: Result<(), CallFault>) -> u8
     ensures { result ≡ code_of answer }
 {

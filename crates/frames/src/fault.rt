@@ -31,7 +31,7 @@ impl From<LineFault> for FrameFault {
     }
 }
 
-// The number by which a refusal is told to people and programs, and no text beside it.
+// The number by which a refusal is told. No Display or Error: nothing prints a refusal of a frame; its number goes into a reply.
 impl From<FrameFault> for u8 {
     ghost from_gives = { λ f n. n ≡ fault_number f };
 
@@ -74,6 +74,7 @@ impl From<Layer> for u8 {
     }
 }
 
+// The numbers stand again: the language has no conversion back from a discriminant.
 impl TryFrom<u8> for Layer {
     type Error = FrameFault;
 

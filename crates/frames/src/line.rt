@@ -20,7 +20,7 @@ fn wrong_size(n: usize) -> bool
     n == 0 || n % 2 == 1 || n > 64
 }
 
-// Fills a frame that is lent, and leaves it as it was where the line is refused.
+// By a rule of the project the reader, which may refuse, fills a frame that is lent; a refused line leaves it as it was.
 pub(crate) fn read_line(line: &[u8], frame: &mut Frame) -> Result<(), LineFault>
     ensures answer { result ≡ granted (line_fault line.now) }
     ensures after { frame.new ≡ frame_after frame.old line.now }
@@ -48,7 +48,7 @@ pub(crate) fn write_line(frame: &Frame) -> Line
 {
     let bytes = frame.contents();
     let mut text = [0u8; 64];
-    // By index: as_chunks_mut says nothing of what the text ends as.
+    // By index: what as_chunks_mut lends is unknown once it is written, and with it the text.
     for (i, b) in bytes.iter().enumerate() {
         text[2 * i] = letter(b / 16);
         text[2 * i + 1] = letter(*b);

@@ -31,6 +31,7 @@ impl From<ReplyKind> for u8 {
     }
 }
 
+// The numbers stand again: the language has no conversion back from a discriminant.
 impl TryFrom<u8> for ReplyKind {
     type Error = FrameFault;
 

@@ -33,6 +33,7 @@ impl From<RequestKind> for u8 {
     }
 }
 
+// The numbers stand again: the language has no conversion back from a discriminant.
 impl TryFrom<u8> for RequestKind {
     type Error = FrameFault;
 

@@ -8,6 +8,7 @@ use faults::CallFault;
 use grades::Grade;
 use networks::Opening;
 
+// The memory's parts are named one by one: what is fixed is said of a matrix and of memory alike, and the rest of memory alone.
 impl<G: Grade + Drop> Opening for BitMatrix<G> {
     type Memory = MatrixMemory<G>;
 
@@ -37,6 +38,7 @@ impl<G: Grade + Drop> Opening for BitMatrix<G> {
     }
 
     fn open(n: usize, memory: MatrixMemory<G>) -> BitMatrix<G> {
+        // nobody where the check refuses: a line in each kind
         let n = Self::check(n, &memory).map_or(0, |_| n);
         let MatrixMemory { bits, grades } = memory;
         BitMatrix {

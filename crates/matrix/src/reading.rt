@@ -8,7 +8,8 @@ use grades::Grade;
 use networks::Network;
 use networks::places::item;
 
-// persons and grade read a field each, as in every kind. The meaning goes by parts, of which no one struct has all.
+// persons and grade are a line each, as in every kind that owns its grades.
+// The meaning goes by numbers and lists, as its definitions do, so the parts are named.
 impl<G: Grade + Drop> Network for BitMatrix<G> {
     type Grade = G;
 

@@ -13,6 +13,7 @@ use networks::places::fill_front;
 pub(crate) struct Square {
     pub(crate) n: usize,
     pub(crate) bits: Vec<u8>,
+    // 4,096 as a sound network is defined
     ghost few: { n ≤ 4096 },
     ghost room: { n * stride n ≤ length bits.items },
     ghost mirror: { (u v : ℕ) → bit_at n bits.items u v ≡ bit_at n bits.items v u },

@@ -9,7 +9,7 @@ use faults::CallFault;
 use grades::Grade;
 use networks::Opening;
 
-// The memory's parts are named one by one: what is fixed is said of rows and of memory alike.
+// The memory's parts are named one by one: what is fixed is said of rows and of memory alike, and the rest of memory alone.
 impl<G: Grade + Drop> Opening for AdjacencyRows<G> {
     type Memory = RowsMemory<G>;
 
@@ -30,7 +30,7 @@ impl<G: Grade + Drop> Opening for AdjacencyRows<G> {
     // Too many persons or too long rows come first, then a memory that is short.
     fn check(n: usize, memory: &RowsMemory<G>) -> Result<(), CallFault> {
         let span = memory.span;
-        // 4,096 as a sound network is defined; a constant would be one more name for it.
+        // 4,096 as a sound network is defined, and 4,095 as the links of one among so many; a constant would be one more name for each.
         if n > 4096 || span > 4095 {
             return Err(CallFault::TooLarge);
         }
@@ -41,6 +41,7 @@ impl<G: Grade + Drop> Opening for AdjacencyRows<G> {
     }
 
     fn open(n: usize, memory: RowsMemory<G>) -> AdjacencyRows<G> {
+        // nobody where the check refuses: a line in each kind
         let persons = Self::check(n, &memory).map_or(0, |()| n);
         AdjacencyRows {
             rows: TidyRows::cleared(persons, memory.span, memory.counts, memory.cells),

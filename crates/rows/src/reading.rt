@@ -9,7 +9,7 @@ use grades::Grade;
 use networks::Network;
 use networks::places::item;
 
-// persons and grade read a field each, as in every kind.
+// persons and grade are a line each, as in every kind that owns its grades.
 impl<G: Grade + Drop> Network for AdjacencyRows<G> {
     type Grade = G;
 

@@ -14,6 +14,7 @@ pub(crate) struct TidyRows {
     pub(crate) span: usize,
     pub(crate) counts: Vec<u16>,
     pub(crate) cells: Vec<u16>,
+    // 4,096 as a sound network is defined, and 4,095 as the links of one among so many
     ghost few: { n ≤ 4096 },
     // with no rows the span may be any
     ghost narrow: { 0 < n → span ≤ 4095 },
@@ -24,6 +25,7 @@ pub(crate) struct TidyRows {
 }
 
 // A pair of persons is two numbers in every call, so that they are below n is asked of them and stands in no type.
+// That the frame stays is one named fact, which each change has to promise.
 // To enter and to take out ask different facts, so each has functions of its own, and none takes the edit as a closure.
 impl TidyRows {
     ghost use Rattle.rows.specs.Tidy.{links, in_row, frame};

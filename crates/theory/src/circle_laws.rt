@@ -1,4 +1,4 @@
-// Theorems on circles: each as published, and where persons may be level, in two clauses that read at once.
+// Theorems on circles; one that holds as published and where persons may be level says both, in two clauses that read at once.
 ghost use Rattle.theory.specs.CircleLaws.{ApartOrNested, CircleFormsAgree, CirclesAreComponents, CoreNumberTellsCircles, NestedByK};
 ghost use Rattle.theory.specs.Circles.{Circle, LevelCircle};
 ghost use Rattle.theory.specs.Orders.{Order, StrictOrder};
