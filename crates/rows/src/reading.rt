@@ -15,7 +15,7 @@ impl<G: Grade + Drop> Network for AdjacencyRows<G> {
 
     ghost meaning = { λ s. net_of s.rows s.grades.items };
 
-    ghost sound = { λ s. rows_sound s.rows s.grades.items s.graded s.apart s.bothways };
+    ghost sound = { λ s. rows_sound s.rows.n s.rows.span s.rows.counts.items s.rows.cells.items s.grades.items s.rows.few s.graded s.apart s.bothways };
 
     ghost fixed = { λ s. fixed_in (frame s.rows) s.grades.items };
 
