@@ -38,11 +38,12 @@ fn show_cores(rt: &impl Print, net: &impl Network<Grade = Points>) -> anyhow::Re
     Ok(())
 }
 
-// How a call was answered.
+// By its code, as the rules tell answers. The call is written first, so that it stands where a stream takes no more.
 fn tell(rt: &impl Print, call: &impl Display, answer: Result<(), CallFault>) -> anyhow::Result<()> {
-    match answer {
-        Ok(()) => println!(rt; "{call}: done")?,
-        Err(fault) => println!(rt; "{call}: refused with {}", u8::from(fault))?,
+    print!(rt; "{call}")?;
+    match faults::code(answer) {
+        0 => println!(rt; ": done")?,
+        number => println!(rt; ": refused with {number}")?,
     }
     Ok(())
 }
