@@ -32,18 +32,18 @@ loop-k-init g c =
 pub loop-k-preserved : goal.loop-k-preserved
 loop-k-preserved g c =
     let note = c.note-in-loop-k in
-    numbered_next c.loop-k.invariant c.loop-k.k (c.loop-k.k + 1 - 1) c.shrink.new.self note.new.row (omega arith) (omega arith) c.shrink.ensures.same c.shrink.ensures.fallen note.ensures.written note.ensures.rest
+    numbered_next c.loop-k.invariant c.loop-k.k (c.loop-k.k + 1 - 1) c.shrink.new.self note.new.row (omega arith) (omega arith) c.shrink.ensures.same c.shrink.ensures.fallen (λ v m. omega (arith, note.ensures.written v m)) note.ensures.rest
 
 pub returns-then-not-note : goal.returns-then-not-note
 returns-then-not-note g c =
     let note = c.note-in-loop-k in
-    let now = numbered_next c.loop-k.invariant c.loop-k.k c.loop-k.k c.shrink.new.self note.new.row (omega arith) refl c.shrink.ensures.same c.shrink.ensures.fallen note.ensures.written note.ensures.rest in
+    let now = numbered_next c.loop-k.invariant c.loop-k.k c.loop-k.k c.shrink.new.self note.new.row (omega arith) refl c.shrink.ensures.same c.shrink.ensures.fallen (λ v m. omega (arith, note.ensures.written v m)) note.ensures.rest in
     record { numbers = numbered_out now (none_stands (alive c.shrink.new.self.fell.now) note.result c.if-not-note.true note.ensures.some); rest = now.rest }
 
 pub returns-else-not-note : goal.returns-else-not-note
 returns-else-not-note g c =
     let note = c.note-in-loop-k in
-    let now = numbered_next c.loop-k.invariant c.loop-k.k c.loop-k.k c.shrink.new.self note.new.row (omega arith) refl c.shrink.ensures.same c.shrink.ensures.fallen note.ensures.written note.ensures.rest in
+    let now = numbered_next c.loop-k.invariant c.loop-k.k c.loop-k.k c.shrink.new.self note.new.row (omega arith) refl c.shrink.ensures.same c.shrink.ensures.fallen (λ v m. omega (arith, note.ensures.written v m)) note.ensures.rest in
     record { numbers = numbered_ends now (omega (arith, c.persons-k-end.ensures)); rest = now.rest }
 
 pub returns : goal.returns

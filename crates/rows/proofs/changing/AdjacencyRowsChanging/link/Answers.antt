@@ -1,4 +1,5 @@
-use Rattle.std.proofs.Common.{sym, ap, ◌∙◌}
+use Rattle.std.proofs.Common.{sym, ap, ◌∙◌, arith}
+use Rattle.faults.specs.Answers.{unless}
 use Rattle.networks.specs.Changes.{with_link, link_fault}
 use Rattle.rows.specs.Tidy.{links, net_of}
 use Rattle.rows.proofs.Granted.{granted_is, refused_is, linked_apart}
@@ -23,10 +24,12 @@ returns-clause-network g c =
     let s = c.args.self.now in
     let net = net_of s.rows s.grades.items in
     net_linked c.join.new.self s.grades.items s.rows.n _ (ap (λ f. f.persons) c.join.ensures.framed) c.join.ensures.linked
-    ∙ granted_is (link_fault s.rows.span net c.args.u c.args.v) (with_link net c.args.u c.args.v) net c.check_link.result c.check_link.ensures c.in_ok-check_link.was
+    ∙ granted_is _ (with_link net c.args.u c.args.v) net c.check_link.result c.check_link.ensures c.in_ok-check_link.was
+    ∙ ap (λ k. unless (link_fault k net c.args.u c.args.v) (with_link net c.args.u c.args.v) net) (omega arith)
 
 pub returns-in_err-check_link-clause-network : goal.returns-in_err-check_link-clause-network
 returns-in_err-check_link-clause-network g c =
     let s = c.args.self.now in
     let net = net_of s.rows s.grades.items in
-    refused_is (link_fault s.rows.span net c.args.u c.args.v) (with_link net c.args.u c.args.v) net c.check_link.result c.check_link.ensures _ c.in_err-check_link.was
+    refused_is _ (with_link net c.args.u c.args.v) net c.check_link.result c.check_link.ensures _ c.in_err-check_link.was
+    ∙ ap (λ k. unless (link_fault k net c.args.u c.args.v) (with_link net c.args.u c.args.v) net) (omega arith)
