@@ -16,7 +16,7 @@ use Rattle.theory.proofs.Counting.{count_le}
 use Rattle.theory.proofs.Loops.{cascade_keeps_core}
 use Rattle.theory.proofs.Numbers.{number_tells}
 use Rattle.cores.specs.Answer.{Noted, cores_fault, KeptIf}
-use Rattle.cores.specs.Lanes.{alive, fitting, Fits, Ready, Fallen}
+use Rattle.cores.specs.Lanes.{Lanes, alive, fitting, Fits, Ready, Fallen}
 use Rattle.cores.specs.Lent.{lanes_of, SameLanes}
 use Rattle.cores.specs.declared.lanes.Cascade.{Cascade}
 use Rattle.cores.proofs.Alive.{alive_past}
@@ -47,7 +47,7 @@ pub core_zero : (g : Graph) → core g 0 (everyone g) ≡ everyone g
 core_zero g = (cascade_keeps_core g 0 (everyone g)).1 (everyone_within g) (λ v m. omega arith)
 
 -- the core of the core before
-core_next : (g : Graph) (k k' : ℕ) → k ≤ k' → core g k' (core g k (everyone g)) ≡ core g k' (everyone g)
+pub core_next : (g : Graph) (k k' : ℕ) → k ≤ k' → core g k' (core g k (everyone g)) ≡ core g k' (everyone g)
 core_next g k k' h = core_same g k' (core g k (everyone g)) (everyone g) (λ v m. core_part g k (everyone g) v (core_part g k' (core g k (everyone g)) v m)) (λ v m. core_less g k k' (everyone g) h v m)
 
 -- the numbers so far, cut off at k
@@ -62,16 +62,20 @@ numbered g j k S old new s e so hit same v l = go (cases_Bool (S v))
         few : ¬ (k ≤ core_number g v)
         few h = both_ways (S v) f (rw e ((number_tells g v l k).1 h))
 
-number_bound : (g : Graph) (v : ℕ) → core_number g v ≤ g.size
+pub number_bound : (g : Graph) (v : ℕ) → core_number g v ≤ g.size
 unfolding core_number
 number_bound g v = count_le (λ c. core g (suc c) (everyone g) v) g.size
 
 -- nobody is left: all are numbered
-number_few : (g : Graph) (k : ℕ) (S : Set) (v : ℕ) → v < g.size → S ≡ core g k (everyone g) → S v ≡ false → core_number g v < k
+pub number_few : (g : Graph) (k : ℕ) (S : Set) (v : ℕ) → v < g.size → S ≡ core g k (everyone g) → S v ≡ false → core_number g v < k
 number_few g k S v l e f = omega (arith, few)
   where
     few : ¬ (k ≤ core_number g v)
     few h = both_ways (S v) f (rw e ((number_tells g v l k).1 h))
+
+-- lanes that are ready again
+pub ready_next : (g : Graph) (k mark : ℕ) (old l : Lanes) → Ready g old → Fallen g k mark old l → Ready g l
+ready_next g k mark old l r f = record { counted = f.counted; room = omega (arith, r.room, f.room) }
 
 -- the cascade has come to k, and the row has the numbers so far
 pub record Numbered (g : Graph) (k : ℕ) (c : Cascade) (row old : List ℕ) : Type 0 where
@@ -90,7 +94,7 @@ numbered_next {g} {j} {c} {row} {old} h k i c' row' s here same falls hit kept =
     rw here (record {
       fits = record { marks = h.fits.marks; ends = omega (arith, h.ready.room, f.room); fell = same.0.1 ∙ h.fits.fell; degrees = same.1.1 ∙ h.fits.degrees; order = same.2.1 ∙ h.fits.order; room = same.3.1 ∙ h.fits.room };
       stands = stands;
-      ready = record { counted = f.counted; room = omega (arith, h.ready.room, f.room) };
+      ready = ready_next g k 1 (lanes_of c) (lanes_of c') h.ready f;
       numbers = numbered g j k (alive c'.fell.now) row row' s stands h.numbers hit kept;
       rest = λ v i. kept v (alive_past c'.fell.now v (omega (arith, same.0.1, h.fits.fell))) ∙ h.rest v i;
     })

@@ -1,5 +1,5 @@
 -- One step of a fall on the way to the core. Assumes nothing.
-use Rattle.std.proofs.Common.{◌≡◌, ℕ, ◌+◌, ◌-◌, ◌<◌, ◌≤◌, Bool, true, false, not, ◌&&◌, eqb, ◌⊎◌, List, [], ◌∷◌, length, get_or, take, drop, set, count_by, sym, ap, ◌∙◌, inl, inr, arith}
+use Rattle.std.proofs.Common.{◌≡◌, ℕ, ◌+◌, ◌-◌, ◌<◌, ◌≤◌, Bool, true, false, not, ◌&&◌, eqb, ◌⊎◌, List, [], ◌∷◌, length, get_or, take, drop, set, count_by, sym, refl, ap, ◌∙◌, inl, inr, arith}
 use Rattle.std.proofs.lemmas.List.{get_or-set_same, get_or-set_other}
 use Rattle.std.proofs.lemmas.Bool.{cases_eq}
 use Rattle.networks.specs.Net.{Net, Sound, neighbours}
@@ -45,6 +45,10 @@ module _ (g : Graph) (k mark : ℕ) (X : Set) (old l : Lanes) (head x : ℕ) (re
         enough = λ v b m. let (n, d) = still l.fell x mark v p a m in omega (arith, get_or-set_other l.degrees x v (get_or l.degrees x 0 - 1) 0 d, f.enough v b n);
         queue = queue_push g mark old (lowered x l) head x rest p lf lo a q;
       }
+
+-- from degrees that are right
+pub falling_starts : (g : Graph) (k mark : ℕ) (l : Lanes) → Ready g l → Falling g k 0 mark (alive l.fell) l l l.tail []
+falling_starts g k mark l r = record { same = refl; enough = λ v b m. absurd (omega arith); queue = queue_starts g mark l r }
 
 -- u is looked at and stays
 pub passes : (g : Graph) (k u mark : ℕ) (X : Set) (old l : Lanes) (head : ℕ) → (u ∈ alive l.fell → k ≤ get_or l.degrees u 0) → Falling g k u mark X old l head [] → Falling g k (u + 1) mark X old l head []

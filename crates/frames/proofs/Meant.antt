@@ -7,7 +7,7 @@ use Rattle.frames.specs.Frames.{kind_in, word_at}
 use Rattle.frames.specs.Kinds.{is_request, length_of}
 use Rattle.frames.specs.Requests.{request_of, regraded}
 
-some_kind : {X : Type 0} (k n : ℕ) (a rest : Option X) → (k ≡ n → is_some a ≡ true) → ((k ≡ n → ⊥) → is_some rest ≡ true) → is_some (cond (eqb k n) a rest) ≡ true
+pub some_kind : {X : Type 0} (k n : ℕ) (a rest : Option X) → (k ≡ n → is_some a ≡ true) → ((k ≡ n → ⊥) → is_some rest ≡ true) → is_some (cond (eqb k n) a rest) ≡ true
 some_kind k n a rest f g = go (eqb k n) refl
   where
     go : (t : Bool) → eqb k n ≡ t → is_some (cond t a rest) ≡ true

@@ -5,7 +5,7 @@ use borrow.Rule.Slice.PartMut.{put_mid}
 use Rattle.grades.specs.Places.{onto}
 use Rattle.frames.specs.declared.frame.Frame.{Frame}
 use Rattle.frames.specs.Frames.{framed, check_of}
-use Rattle.frames.specs.Lines.{padded, frame_of}
+use Rattle.frames.specs.Lines.{padded, frame_of, typed, shown}
 use Rattle.frames.proofs.Checks.{length_framed}
 
 pub sealed : (xs bs : List ℕ) (n c : ℕ) → n ≤ 32 → length xs + 1 ≡ n → bs ≡ padded xs → c ≡ check_of (take (n - 1) bs) → ◌≡◌ {A = Frame} (record { bytes = set bs (n - 1) c; len = n }) (frame_of (framed xs))
@@ -39,3 +39,7 @@ part_more xs part row places n l h e w =
     let less : 32 - length xs - length part ≡ 32 - length (xs ++ part) = (let m = length-append xs part in omega arith) in
     let written : places ≡ part ++ replicate (32 - length (xs ++ part)) 0 = w ∙ ap (onto part) lent ∙ onto_zeros part (32 - length xs) (omega arith) ∙ ap (λ k. part ++ replicate k 0) less in
     ap (λ t. t ++ (places ++ drop (32 - n) (drop n row))) front ∙ ap (λ t. xs ++ (places ++ t)) behind ∙ ap (λ t. xs ++ t) (append-nil places ∙ written) ∙ sym (append_assoc xs part (replicate (32 - length (xs ++ part)) 0))
+
+-- the characters of a typed line are those typed
+pub shown_typed : (cs : List ℕ) → shown (typed cs) ≡ cs
+shown_typed cs = take_at cs (replicate (64 - length cs) 0) (length cs) refl

@@ -1,5 +1,6 @@
 -- Fields of two and four bytes, read and written, and the front of a frame as its bytes: lemmas for the laws of messages. Assumes nothing.
 --     byte_at, front              a byte of some bytes, and their front, one by one
+--     word_bytes, long_bytes      two and four bytes of any number are bytes
 --     word_back, word_at_lem, long_at_lem   two and four bytes as a number, and that number as the bytes
 --     no_field .. one_word_rest   the bytes before the check, for each sequence of fields
 --     landed, this_kind, no_kind  what is read is of one of the kinds
@@ -21,6 +22,12 @@ byte_at bs h i = elim (cases_lt i (length bs)) [
 
 pub front : (bs : List ℕ) (n : ℕ) → n ≤ length bs → take n bs ≡ map (λ i. get_or bs i 0) (range_with_len 0 n)
 front bs n h = fill_by_all (λ i. get_or bs i 0) (take n bs) n 0 (length-take-le n bs h) (λ k l. get_or-take n bs k 0 l)
+
+pub word_bytes : (n : ℕ) → AllByRecursion Byte (bytes16 n)
+word_bytes n = (omega arith, (omega arith, tt))
+
+pub long_bytes : (n : ℕ) → AllByRecursion Byte (bytes32 n)
+long_bytes n = (omega arith, (omega arith, (omega arith, (omega arith, tt))))
 
 pub word_back : (n : ℕ) → n < 65536 → n / 256 % 256 * 256 + n % 256 ≡ n
 word_back n h = omega arith

@@ -1,5 +1,5 @@
 -- The numbers below n that pass a test, in order: what neighbours are. Assumes nothing.
-use Rattle.std.proofs.Common.{◌≡◌, ℕ, zero, suc, ◌+◌, ◌-◌, ◌<◌, ◌≤◌, Bool, false, cond, List, [], ◌∷◌, ◌++◌, length, get_or, take, set, Some, None, filter, Option, refl, ap, ◌∙◌, inl, inr, arith}
+use Rattle.std.proofs.Common.{◌≡◌, ℕ, zero, suc, ◌+◌, ◌-◌, ◌<◌, ◌≤◌, Bool, true, false, cond, List, [], ◌∷◌, ◌++◌, length, get_or, take, set, Some, None, filter, Option, refl, ap, ◌∙◌, inl, inr, arith}
 use Rattle.std.specs.List.{slice_get, range_with_len, AllByRecursion}
 use Rattle.std.proofs.lemmas.List.FromFn.{length-range_with_len}
 use Rattle.std.proofs.lemmas.List.Sums.{length-filter, count_by-le-length}
@@ -45,7 +45,7 @@ kept_append p n m =
     ap (filter p) (counting_append 0 n m ∙ ap (λ a. range_with_len 0 n ++ range_with_len a m) e) ∙ filter-append p (range_with_len 0 n) (range_with_len n m)
 
 -- one number more, which fails
-kept_same : (p : ℕ → Bool) (n : ℕ) → p n ≡ false → filter p (range_with_len 0 (n + 1)) ≡ filter p (range_with_len 0 n)
+pub kept_same : (p : ℕ → Bool) (n : ℕ) → p n ≡ false → filter p (range_with_len 0 (n + 1)) ≡ filter p (range_with_len 0 n)
 kept_same p n h = kept_append p n 1 ∙ ap (λ b. filter p (range_with_len 0 n) ++ cond b (n ∷ []) []) h ∙ append-nil (filter p (range_with_len 0 n))
 
 pub kept_none : (p : ℕ → Bool) (a n : ℕ) → ((v : ℕ) → a ≤ v → p v ≡ false) → filter p (range_with_len a n) ≡ []
@@ -58,6 +58,21 @@ pub kept_past : (p : ℕ → Bool) (n m : ℕ) → n ≤ m → ((v : ℕ) → n 
 kept_past p n m l h =
     let e : m ≡ n + (m - n) = omega arith in
     ap (λ t. filter p (range_with_len 0 t)) e ∙ kept_append p n (m - n) ∙ ap (λ t. filter p (range_with_len 0 n) ++ t) (kept_none p n (m - n) h) ∙ append-nil (filter p (range_with_len 0 n))
+
+nth_at : (xs : List ℕ) (v : ℕ) (ys : List ℕ) → slice_get (xs ++ v ∷ ys) (length xs) ≡ Some v
+nth_at [] v ys = refl
+nth_at (x ∷ xs) v ys = nth_at xs v ys
+
+-- a number that passes stands behind the smaller ones that do
+pub kept_at : (p : ℕ → Bool) (n v i : ℕ) → v < n → p v ≡ true → i ≡ length (filter p (range_with_len 0 v)) → slice_get (filter p (range_with_len 0 n)) i ≡ Some v
+kept_at p n v i h t e =
+    let rest = n - (v + 1) in
+    let split : n ≡ v + suc rest = omega arith in
+    let front = filter p (range_with_len 0 v) in
+    let kept : filter p (range_with_len 0 n) ≡ front ++ v ∷ filter p (range_with_len (v + 1) rest) =
+    ap (λ m. filter p (range_with_len 0 m)) split ∙ kept_append p v (suc rest)
+    ∙ ap (λ b. front ++ cond b (v ∷ filter p (range_with_len (v + 1) rest)) (filter p (range_with_len (v + 1) rest))) t in
+    ap (slice_get (filter p (range_with_len 0 n))) e ∙ ap (λ l. slice_get l (length front)) kept ∙ nth_at front v (filter p (range_with_len (v + 1) rest))
 
 pub kept_few : (p : ℕ → Bool) (a n : ℕ) → length (filter p (range_with_len a n)) ≤ n
 kept_few p a n = omega (arith, length-filter p (range_with_len a n), count_by-le-length p (range_with_len a n), length-range_with_len a n)

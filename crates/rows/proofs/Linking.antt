@@ -14,6 +14,7 @@ use Rattle.rows.proofs.Pairing.{one_more, one_less}
 use Rattle.rows.proofs.Rewriting.{Becomes, rewritten}
 use Rattle.rows.proofs.Sieve.{has_kept}
 use Rattle.rows.proofs.Standing.{place_within, placed}
+use Rattle.rows.proofs.Stretches.{part_is}
 use Rattle.rows.proofs.Tidying.{entered, leaving, tidy_entered, has_entered, tidy_leaving, has_leaving}
 
 module _ (s : TidyRows) (u v : ℕ) (a : u < s.n) (b : v < s.n) where
@@ -41,8 +42,8 @@ module _ (s : TidyRows) (u v : ℕ) (a : u < s.n) (b : v < s.n) where
     abbrev part : ℕ → List ℕ
     part k = take (first + k - first) (drop first lent)
 
-    part_is : (k : ℕ) → part k ≡ take k (drop first cells)
-    part_is k = let e : first + k - first ≡ k = omega arith in ap₂ (λ j t. take j (drop first t)) e same
+    lent_part : (k : ℕ) → part k ≡ take k (drop first cells)
+    lent_part k = part_is lent first k ∙ ap (λ t. take k (drop first t)) same
 
     -- the row as it was cut out
     cut : take count (drop first cells) ≡ row
@@ -66,7 +67,7 @@ module _ (s : TidyRows) (u v : ℕ) (a : u < s.n) (b : v < s.n) where
     put_becomes free room e =
         let l = lies s u a in
         let n : count ≡ length row = is ∙ ap length (sym l.near) in
-        let p = part_is (count + 1) in
+        let p = lent_part (count + 1) in
         let m : length (part (count + 1)) - 1 ≡ count = omega (arith, ap length p, length-take-le (count + 1) (drop first cells) (omega (arith, length-drop first cells))) in
         let is_new : new ≡ entered v row = e ∙ ap₂ (λ t i. insert t i v) (ap₂ (λ j t. take j t) m p ∙ take-take count (count + 1) (drop first cells) (omega arith) ∙ cut) place in
         let size : length (entered v row) ≡ count + 1 = omega (arith, length-insert row (place_of v row) v (place_within v row)) in
@@ -84,7 +85,7 @@ module _ (s : TidyRows) (u v : ℕ) (a : u < s.n) (b : v < s.n) where
         let l = lies s u a in
         let n : count ≡ length row = is ∙ ap length (sym l.near) in
         let rest = drop (length row - 1) row in
-        let is_new : new ≡ leaving v row ++ rest = e ∙ ap₂ (λ t i. remove t i ++ drop (length t - 1) t) (part_is count ∙ cut) place in
+        let is_new : new ≡ leaving v row ++ rest = e ∙ ap₂ (λ t i. remove t i ++ drop (length t - 1) t) (lent_part count ∙ cut) place in
         let inside : place_of v row < length row = omega (arith, ap (place_of v) l.near, ap length l.near, place_inside stands) in
         let size : length (leaving v row) + 1 ≡ count = omega (arith, length-remove row (place_of v row) inside) in
         let long : length new ≡ count = omega (arith, ap length is_new, length-append (leaving v row) rest, length-drop (length row - 1) row) in

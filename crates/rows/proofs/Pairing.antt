@@ -17,6 +17,9 @@ one_less false a h l f = refl
 pub both_more : (a b l : Bool) → (b || (a || l)) ≡ ((a || b) || l)
 both_more a b l = grind (arith, nat_tests)
 
+pub both_less : (a b l : Bool) → (not b && (not a && l)) ≡ (not (a || b) && l)
+both_less a b l = grind (arith, nat_tests)
+
 module _ (linked : ℕ → ℕ → Bool) (u v : ℕ) where
   pub apart_more : (u ≡ v → ⊥) → Apart linked → Apart (λ x y. is_pair u v x y || linked x y)
   apart_more ne apart x = let h = apart x in grind (arith, nat_tests)

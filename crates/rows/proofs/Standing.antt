@@ -8,12 +8,12 @@ use Rattle.std.proofs.lemmas.Bool.{cases_lt, eq-eqb, ne_eqb, lt-ltb, le-ltb, or_
 use Rattle.std.proofs.lemmas.Bool.Decides.{nat_tests}
 use Rattle.rows.specs.Row.{has, place_of}
 
-has_at : (xs : List ℕ) (v k : ℕ) → k < length xs → get_or xs k 0 ≡ v → has v xs ≡ true
+pub has_at : (xs : List ℕ) (v k : ℕ) → k < length xs → get_or xs k 0 ≡ v → has v xs ≡ true
 has_at [] v k h e = absurd (omega arith)
 has_at (x ∷ xs) v zero h e = or_left (eqb v x) (has v xs) (eq-eqb v x (sym e))
 has_at (x ∷ xs) v (suc k) h e = or_right (eqb v x) (has v xs) (has_at xs v k (omega arith) e)
 
-has_none : (xs : List ℕ) (v : ℕ) → ((k : ℕ) → k < length xs → get_or xs k 0 ≡ v → ⊥) → has v xs ≡ false
+pub has_none : (xs : List ℕ) (v : ℕ) → ((k : ℕ) → k < length xs → get_or xs k 0 ≡ v → ⊥) → has v xs ≡ false
 has_none [] v none = refl
 has_none (x ∷ xs) v none = or_from (eqb v x) (has v xs)
     (ne_eqb v x (λ e. none 0 (omega arith) (sym e)))

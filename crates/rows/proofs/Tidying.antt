@@ -14,14 +14,14 @@ entered v xs = insert xs (place_of v xs) v
 abbrev pub leaving : ℕ → List ℕ → List ℕ
 leaving v xs = remove xs (place_of v xs)
 
-has_outside : (n : ℕ) (xs : List ℕ) → Tidy n xs → (w : ℕ) → n ≤ w → has w xs ≡ false
+pub has_outside : (n : ℕ) (xs : List ℕ) → Tidy n xs → (w : ℕ) → n ≤ w → has w xs ≡ false
 has_outside n xs t w h = ap (has w) t ∙ has_kept (λ v. has v xs) n w ∙ and_left (ltb w n) (has w xs) (le-ltb w n h)
 
 -- those below n that pass a test are tidy, and stand there just when they pass
-tidy_kept : (n : ℕ) (q : ℕ → Bool) (ys : List ℕ) → ys ≡ filter q (range_with_len 0 n) → Tidy n ys
+pub tidy_kept : (n : ℕ) (q : ℕ → Bool) (ys : List ℕ) → ys ≡ filter q (range_with_len 0 n) → Tidy n ys
 tidy_kept n q ys e = e ∙ kept_agree q (λ w. has w ys) 0 n (λ w l h. sym (ap (has w) e ∙ has_kept q n w ∙ ap (λ b. b && q w) (lt-ltb w n (omega arith))))
 
-passes : (n : ℕ) (q : ℕ → Bool) (ys : List ℕ) → ys ≡ filter q (range_with_len 0 n) → ((w : ℕ) → n ≤ w → q w ≡ false) → (w : ℕ) → has w ys ≡ q w
+pub passes : (n : ℕ) (q : ℕ → Bool) (ys : List ℕ) → ys ≡ filter q (range_with_len 0 n) → ((w : ℕ) → n ≤ w → q w ≡ false) → (w : ℕ) → has w ys ≡ q w
 passes n q ys e none w = ap (has w) e ∙ has_kept q n w ∙ elim (cases_lt w n) [
   | inl h ↦ ap (λ b. b && q w) (lt-ltb w n h)
   | inr h ↦ and_right (ltb w n) (q w) (none w h) ∙ sym (none w h)

@@ -7,6 +7,10 @@ pub walk_start : {g : Graph} {S : Set} {u v : ℕ} → Walk g S u v → u ∈ S
 walk_start (here m) = m
 walk_start (step m l r) = m
 
+pub walk_end : {g : Graph} {S : Set} {u v : ℕ} → Walk g S u v → v ∈ S
+walk_end (here m) = m
+walk_end (step m l r) = walk_end r
+
 pub walk_mono : {g : Graph} {S S' : Set} {u v : ℕ} → S ⊆ S' → Walk g S u v → Walk g S' u v
 walk_mono h (here {u} m) = here (h u m)
 walk_mono h (step {u} m l r) = step (h u m) l (walk_mono h r)
