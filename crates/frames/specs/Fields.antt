@@ -9,7 +9,7 @@ use Rattle.std.specs.List.{range_with_len, AllByRecursion}
 use Rattle.std.proofs.lemmas.List.FromFn.{fill_by_all}
 use Rattle.std.proofs.ByRecursion.{All-get_or}
 use Rattle.std.proofs.lemmas.List.{drop-take, get_or_past, get_or-take, length-take-le, take-append-drop, take-take}
-use Rattle.std.proofs.lemmas.Bool.{cases_lt, eqb-true, eqb-false}
+use Rattle.std.proofs.lemmas.Bool.{cases_lt, eqb-true}
 use Rattle.grades.specs.Encoding.{bytes32, number32}
 use Rattle.grades.specs.Places.{Byte}
 use Rattle.frames.specs.Frames.{bytes16, word_at, long_at}
